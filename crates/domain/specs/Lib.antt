@@ -1,0 +1,11 @@
+pub mod Masks
+pub mod Groups
+pub mod Told
+pub mod Opening
+pub mod Binding
+pub mod Joining
+pub mod Forgetting
+pub mod Coverage
+pub mod Tables
+pub mod Refusals
+pub mod Requests

@@ -1,0 +1,5 @@
+// Descriptions of record positions: which sets of positions may hold one open place in common,
+// and how binding a position to a term changes that.
+pub mod case;
+pub mod refusal;
+pub mod term;
