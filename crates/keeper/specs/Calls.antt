@@ -1,0 +1,75 @@
+-- What each call of a keeper promises, over what the keeper tells before and after it.
+use mathlib.Core.Path.{_≡_}
+use mathlib.Core.Bool.{Bool, true, false, not, _||_}
+use mathlib.Core.List.{List, [], _∷_}
+use Prim.Native.Nat.{ℕ}
+use lib.Dec.{eqb, ltb}
+use Rattle.std.specs.declared.option.Option.{Option}
+use Rattle.std.specs.declared.option.Option.the-variants.{Some, None}
+use Rattle.std.specs.declared.result.Result.{Result}
+use Rattle.std.specs.declared.result.Result.the-variants.{Ok, Err}
+use Rattle.domain.specs.Binding.{Bound}
+use Rattle.domain.specs.Coverage.{CoreFits}
+use Rattle.domain.specs.Opening.{New}
+use Rattle.domain.specs.Refusals.{firstOf}
+use Rattle.domain.specs.Requests.{askTests, pairTests, bindTests}
+use Rattle.domain.specs.Told.{Told, Group}
+use Rattle.domain.specs.declared.refusal.Refusal.{Refusal}
+use Rattle.domain.specs.declared.refusal.Refusal.the-variants.{Order, Count, Room, Capacity}
+use Rattle.domain.specs.declared.term.Term.{Term}
+use Rattle.keeper.specs.declared.fault.KeeperFault.{KeeperFault}
+
+-- a keeper's fault, by its refusal
+abbrev pub faultOf : Refusal → KeeperFault
+faultOf e = record { refusal = e }
+
+-- A call that may change the description. `refusal` is the first of its tests that fails, if one does;
+-- `Rule e` says that the call's rule gives e; `Left e after` says how the description told afterwards
+-- answers to it. A refused call leaves all that was told. The capacity is tested last: the call is
+-- refused by it exactly when the core of what the rule gives has more groups.
+abbrev pub Changes : {A : Type 0} → Option Refusal → ℕ → (Told → Type 0) → (Told → Told → Type 0)
+    → Told → Told → Result A KeeperFault → Type 0
+Changes (Some e) capacity Rule Left before after r = (r ≡ Err (faultOf e)) × (after ≡ before)
+Changes None capacity Rule Left before after (Ok a) =
+    (e : Told) × Rule e × CoreFits (Group e) capacity × Left e after
+Changes None capacity Rule Left before after (Err f) =
+    (f ≡ faultOf Capacity) × (after ≡ before) × ((e : Told) × Rule e × (CoreFits (Group e) capacity → ⊥))
+
+-- A question: refused by its tests, or yes exactly when `Holds`.
+abbrev pub Answers : Option Refusal → Type 0 → Result Bool KeeperFault → Type 0
+Answers (Some e) Holds r = r ≡ Err (faultOf e)
+Answers None Holds (Ok true) = Holds
+Answers None Holds (Ok false) = Holds → ⊥
+Answers None Holds (Err f) = ⊥
+
+-- the description told is exactly the one that the rule gives
+abbrev pub Exactly : Told → Told → Type 0
+Exactly e after = e ≡ after
+
+-- the tests of each call, in the keeper's order
+abbrev pub opened : Told → Bool
+opened d = not (eqb (d .n) 0)
+
+abbrev pub openRefusal : Told → ℕ → ℕ → Option Refusal
+openRefusal d n scratch =
+    firstOf ((opened d, Order) ∷ (eqb n 0 || ltb 12 n, Count) ∷ (ltb scratch 512, Room) ∷ [])
+
+abbrev pub bindRefusal : Told → ℕ → Term → ℕ → Option Refusal
+bindRefusal d x t scratch = firstOf ((not (opened d), Order) ∷ bindTests (d .n) x t scratch)
+
+abbrev pub askRefusal : Told → ℕ → Option Refusal
+askRefusal d p = firstOf ((not (opened d), Order) ∷ askTests (d .n) p)
+
+abbrev pub pairRefusal : Told → ℕ → ℕ → Option Refusal
+pairRefusal d p q = firstOf ((not (opened d), Order) ∷ pairTests (d .n) p q)
+
+-- Open makes the new description of n positions.
+abbrev pub Opens : {A : Type 0} → ℕ → ℕ → ℕ → Told → Told → Result A KeeperFault → Type 0
+Opens capacity n scratch before after r =
+    Changes (openRefusal before n scratch) capacity (New n) Exactly before after r
+
+-- Bind leaves a description that answers, by `Left`, to what the bind rule gives.
+abbrev pub Binds : {A : Type 0} → (Told → Told → Type 0) → ℕ → ℕ → Term → ℕ → Told → Told
+    → Result A KeeperFault → Type 0
+Binds Left capacity x t scratch before after r =
+    Changes (bindRefusal before x t scratch) capacity (Bound before x t) Left before after r

@@ -1,0 +1,3 @@
+// Keepers: what holds a description and answers questions about it.
+pub mod fault;
+pub mod keeper;
