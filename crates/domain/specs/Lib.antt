@@ -9,3 +9,6 @@ pub mod Coverage
 pub mod Tables
 pub mod Refusals
 pub mod Requests
+pub mod Reaching
+pub mod Lawful
+pub mod Descriptions

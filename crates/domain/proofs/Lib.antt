@@ -1,0 +1,7 @@
+pub mod Bits
+pub mod Tables
+pub mod Laws
+pub mod Deciding
+pub mod Reaching
+pub mod Asking
+pub mod Opening
