@@ -1,9 +1,10 @@
 -- What each call of a keeper promises, over what the keeper tells before and after it.
 use mathlib.Core.Path.{_≡_}
-use mathlib.Core.Bool.{Bool, true, false, not, _||_}
+use mathlib.Core.Bool.{Bool, not, _||_}
 use mathlib.Core.List.{List, [], _∷_}
 use Prim.Native.Nat.{ℕ}
 use lib.Dec.{eqb, ltb}
+use Rattle.std.specs.Orderings.{Decides}
 use Rattle.std.specs.declared.option.Option.{Option}
 use Rattle.std.specs.declared.option.Option.the-variants.{Some, None}
 use Rattle.std.specs.declared.result.Result.{Result}
@@ -27,10 +28,10 @@ faultOf e = record { refusal = e }
 -- `Rule e` says that the call's rule gives e; `Left e after` says how the description told afterwards
 -- answers to it. A refused call leaves all that was told. The capacity is tested last: the call is
 -- refused by it exactly when the core of what the rule gives has more groups.
-abbrev pub Changes : {A : Type 0} → Option Refusal → ℕ → (Told → Type 0) → (Told → Told → Type 0)
-    → Told → Told → Result A KeeperFault → Type 0
+abbrev pub Changes : Option Refusal → ℕ → (Told → Type 0) → (Told → Told → Type 0) → Told → Told
+    → Result (Unit {0}) KeeperFault → Type 0
 Changes (Some e) capacity Rule Left before after r = (r ≡ Err (faultOf e)) × (after ≡ before)
-Changes None capacity Rule Left before after (Ok a) =
+Changes None capacity Rule Left before after (Ok u) =
     (e : Told) × Rule e × CoreFits (Group e) capacity × Left e after
 Changes None capacity Rule Left before after (Err f) =
     (f ≡ faultOf Capacity) × (after ≡ before) × ((e : Told) × Rule e × (CoreFits (Group e) capacity → ⊥))
@@ -38,8 +39,7 @@ Changes None capacity Rule Left before after (Err f) =
 -- A question: refused by its tests, or yes exactly when `Holds`.
 abbrev pub Answers : Option Refusal → Type 0 → Result Bool KeeperFault → Type 0
 Answers (Some e) Holds r = r ≡ Err (faultOf e)
-Answers None Holds (Ok true) = Holds
-Answers None Holds (Ok false) = Holds → ⊥
+Answers None Holds (Ok yes′) = Decides yes′ Holds
 Answers None Holds (Err f) = ⊥
 
 -- the description told is exactly the one that the rule gives
@@ -64,12 +64,12 @@ abbrev pub pairRefusal : Told → ℕ → ℕ → Option Refusal
 pairRefusal d p q = firstOf ((not (opened d), Order) ∷ pairTests (d .n) p q)
 
 -- Open makes the new description of n positions.
-abbrev pub Opens : {A : Type 0} → ℕ → ℕ → ℕ → Told → Told → Result A KeeperFault → Type 0
+abbrev pub Opens : ℕ → ℕ → ℕ → Told → Told → Result (Unit {0}) KeeperFault → Type 0
 Opens capacity n scratch before after r =
     Changes (openRefusal before n scratch) capacity (New n) Exactly before after r
 
 -- Bind leaves a description that answers, by `Left`, to what the bind rule gives.
-abbrev pub Binds : {A : Type 0} → (Told → Told → Type 0) → ℕ → ℕ → Term → ℕ → Told → Told
-    → Result A KeeperFault → Type 0
+abbrev pub Binds : (Told → Told → Type 0) → ℕ → ℕ → Term → ℕ → Told → Told
+    → Result (Unit {0}) KeeperFault → Type 0
 Binds Left capacity x t scratch before after r =
     Changes (bindRefusal before x t scratch) capacity (Bound before x t) Left before after r

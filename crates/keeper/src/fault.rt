@@ -1,3 +1,4 @@
+ghost use mathlib.Core.Path.{_≡_};
 use domain::refusal::Refusal;
 use domain::refusal::RefusalDebug;
 use domain::refusal::RefusalEq;
@@ -7,4 +8,12 @@ use domain::refusal::RefusalPartialEq;
 #[derive(Clone, Copy, PartialEq, Eq, Debug)]
 pub struct KeeperFault {
     pub refusal: Refusal,
+}
+
+pub impl From<Refusal> for KeeperFault as KeeperFaultFromRefusal {
+    ghost converts = { λ e f. f ≡ record { refusal = e } };
+
+    fn from(refusal: Refusal) -> KeeperFault {
+        KeeperFault { refusal }
+    }
 }

@@ -1,0 +1,46 @@
+-- What a description gives, as the keeper's contracts want it.
+use mathlib.Core.Path.{_≡_, refl, sym, subst, _∙_}
+use mathlib.Core.Bool.{Bool, true, false, _||_}
+use Prim.Native.Nat.{ℕ, _≤_, _<_}
+use native.Mathlib.Omega.{arith}
+use borrow.Author.Tests.{le-ltb, lt-ltb}
+use lib.Dec.{eqb, ltb}
+use Rattle.std.specs.Options.{isSome}
+use Rattle.std.specs.declared.option.Option.{Option}
+use Rattle.std.specs.declared.option.Option.the-variants.{Some, None}
+use Rattle.std.specs.declared.result.Result.the-variants.{Ok, Err}
+use Rattle.domain.proofs.Laws.{lawful}
+use Rattle.domain.specs.Binding.{Bound}
+use Rattle.domain.specs.Descriptions.{told}
+use Rattle.domain.specs.Opening.{New}
+use Rattle.domain.specs.Refusals.{firstOf, pick}
+use Rattle.domain.specs.Requests.{Gives, openTests, bindTests}
+use Rattle.domain.specs.Told.{Told}
+use Rattle.domain.specs.declared.description.Description.{Description}
+use Rattle.domain.specs.declared.refusal.Refusal.{Refusal}
+use Rattle.domain.specs.declared.refusal.Refusal.the-variants.{Count, Room}
+use Rattle.keeper.specs.Calls.{Opens, Binds, Changes, Exactly}
+use Rattle.table_keeper.proofs.Fits.{fits-all}
+use Rattle.table_keeper.specs.Tells.{nothing, toldBy}
+
+-- a call that gives a value was refused by no test
+gave : {A : Type 0} (o : Option Refusal) (x : A) (P : A → Type 0) → Gives o (Ok x) P → (o ≡ None) × P x
+gave None x P h = (refl, h)
+gave (Some e) x P h = absurd (let q = h in let z : _≡_ {A = ℕ} 0 1 = cc in omega arith)
+
+-- a keeper that holds nothing tells nothing
+unopened : (o : Option Description) → isSome o ≡ false → toldBy o ≡ nothing
+unopened None h = refl
+unopened (Some d) h = absurd (let z : _≡_ {A = Bool} true false = h in let q : _≡_ {A = ℕ} 0 1 = cc in omega arith)
+
+-- the new description is what the keeper tells
+pub opens-new : (n scratch : ℕ) (o : Option Description) (d : Description) → isSome o ≡ false
+  → Gives (firstOf (openTests n)) (Ok d) (λ e. New n (told e)) → 512 ≤ scratch
+  → Opens 4095 n scratch (toldBy o) (told d) (Ok tt)
+opens-new n scratch o d none h room =
+    subst (λ (x : Told). Opens 4095 n scratch x (told d) (Ok tt)) (sym (unopened o none)) (go (eqb n 0 || ltb 12 n) h)
+  where
+    go : (b : Bool) → Gives (pick b Count None) (Ok d) (λ e. New n (told e))
+      → Changes (pick b Count (pick (ltb scratch 512) Room None)) 4095 (New n) Exactly nothing (told d) (Ok tt)
+    go true h = absurd (let q = h in let z : _≡_ {A = ℕ} 0 1 = cc in omega arith)
+    go false h = rw (le-ltb scratch 512 room) (told d, h, fits-all (told d) (lawful d), refl)

@@ -1,0 +1,75 @@
+ghost use mathlib.Core.Path.{_≡_};
+ghost use lib.ListN.{length};
+ghost use Rattle.domain.specs.Masks.{In};
+ghost use Rattle.domain.specs.Told.{Share, Ground};
+ghost use Rattle.keeper.specs.Calls.{Opens, Binds, Answers, Exactly, askRefusal, pairRefusal};
+ghost use Rattle.table_keeper.specs.Tells.{toldBy, nothing};
+use crate::TableKeeper;
+use domain::description::Description;
+use domain::refusal::Refusal;
+use domain::term::Term;
+use keeper::fault::KeeperFault;
+use keeper::fault::KeeperFaultFromRefusal;
+use keeper::keeper::Keeper;
+
+impl TableKeeper {
+    // A keeper that is not opened yet.
+    pub fn new() -> TableKeeper
+        ensures { λ r. ⌜ toldBy (r .held) ≡ nothing ⌝ }
+    {
+        TableKeeper { held: None }
+    }
+}
+
+// Open and bind are lent this much.
+const SCRATCH: usize = 512;
+
+pub impl Keeper for TableKeeper as TableKeeperKeeper {
+    ghost told = { λ k. toldBy (k .held) };
+
+    ghost capacity = { λ k. 4095 };
+
+    fn open(&mut self, n: u8, scratch: &mut [u8]) -> Result<(), KeeperFault> {
+        if self.held.is_some() {
+            return Err(Refusal::Order.into());
+        }
+        let new = Description::new(n)?;
+        if scratch.len() < SCRATCH {
+            return Err(Refusal::Room.into());
+        }
+        self.held = Some(new);
+        Ok(())
+    }
+
+    fn bind(&mut self, position: u8, term: Term, scratch: &mut [u8]) -> Result<(), KeeperFault> {
+        Err(Refusal::Order.into())
+    }
+
+    fn is_ground(&self, position: u8) -> Result<bool, KeeperFault> {
+        match &self.held {
+            Some(held) => Ok(held.is_ground(position)?),
+            None => Err(Refusal::Order.into()),
+        }
+    }
+
+    fn is_free(&self, position: u8) -> Result<bool, KeeperFault> {
+        match &self.held {
+            Some(held) => Ok(held.is_free(position)?),
+            None => Err(Refusal::Order.into()),
+        }
+    }
+
+    fn is_linear(&self, position: u8) -> Result<bool, KeeperFault> {
+        match &self.held {
+            Some(held) => Ok(held.is_linear(position)?),
+            None => Err(Refusal::Order.into()),
+        }
+    }
+
+    fn share(&self, p: u8, q: u8) -> Result<bool, KeeperFault> {
+        match &self.held {
+            Some(held) => Ok(held.share(p, q)?),
+            None => Err(Refusal::Order.into()),
+        }
+    }
+}
