@@ -1,0 +1,35 @@
+-- A record: a two-byte length of its payload, a two-byte kind, then the payload.
+use mathlib.Core.Path.{_≡_}
+use mathlib.Core.List.{List}
+use Prim.Native.Nat.{ℕ, _+_, _-_, _*_, _≤_}
+use lib.Dec.{ltb}
+use lib.ListN.{getD}
+use Rattle.domain.specs.declared.refusal.Refusal.the-variants.{Truncated}
+use Rattle.std.specs.declared.result.Result.the-variants.{Ok}
+use Rattle.sheet.specs.declared.reader.record.Record.{Record}
+use Rattle.sheet.specs.Results.{Read, refuse}
+
+abbrev pub byteAt : List ℕ → ℕ → ℕ
+byteAt bytes i = getD bytes i 0
+
+-- two bytes, little-endian
+abbrev pub pairAt : List ℕ → ℕ → ℕ
+pairAt bytes i = byteAt bytes i + 256 * byteAt bytes (i + 1)
+
+-- the record at a place, refused where it runs past the end
+abbrev pub recordAt : List ℕ → ℕ → ℕ → Read Record
+recordAt bytes at end =
+    refuse (ltb (end - at) 4) Truncated at
+    (refuse (ltb (end - (at + 4)) (pairAt bytes at)) Truncated at
+    (Ok (record { place = at; kind = pairAt bytes (at + 2); start = at + 4; end = at + 4 + pairAt bytes at })))
+
+-- a record that starts at a place lies before an end
+pub record Within (at end : ℕ) (r : Record) : Type 0 where
+  pub place : r .place ≡ at
+  pub head : at + 4 ≡ r .start
+  pub payload : r .start ≤ r .end
+  pub inside : r .end ≤ end
+
+pub record Payload (bytes : List ℕ) (r : Record) : Type 0 where
+  pub ordered : r .start ≤ r .end
+  pub inside : r .end ≤ lib.ListN.length bytes

@@ -1,0 +1,4 @@
+// Sheets: byte strings that hold a list of steps, how their records are read, and the lines printed of them.
+pub mod fault;
+pub(crate) mod reader;
+pub mod step;

@@ -1,0 +1,2 @@
+// The reader: from the bytes of a sheet to records, and from a record to its step.
+pub(crate) mod record;

@@ -1,0 +1,47 @@
+ghost use mathlib.Core.Path.{_≡_};
+ghost use Rattle.sheet.specs.Steps.{kindOf};
+use domain::term::Term;
+use domain::term::TermDebug;
+use domain::term::TermPartialEq;
+
+// The kinds of steps, without what they carry.
+#[derive(Clone, Copy, PartialEq, Eq, Debug)]
+pub enum StepKind {
+    Open,
+    Bind,
+    Ask,
+    End,
+}
+
+// A question to the keeper, with the positions that it is about.
+#[derive(Clone, Copy, PartialEq, Eq, Debug)]
+pub enum Question {
+    Ground(u8),
+    Free(u8),
+    Linear(u8),
+    Pair(u8, u8),
+}
+
+// One step of a sheet, read.
+#[derive(Clone, Copy, PartialEq, Eq, Debug)]
+pub enum Step {
+    // the number of positions
+    Open(u8),
+    // a position, and what is known of the term that it is bound to
+    Bind(u8, Term),
+    Ask(Question),
+    End,
+}
+
+impl Step {
+    pub fn kind(self) -> StepKind
+        ensures { λ r. ⌜ r ≡ kindOf self ⌝ }
+    {
+        match self {
+            Step::Open(_) => StepKind::Open,
+            Step::Bind(_, _) => StepKind::Bind,
+            Step::Ask(_) => StepKind::Ask,
+            Step::End => StepKind::End,
+        }
+    }
+}
