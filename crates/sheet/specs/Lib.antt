@@ -1,3 +1,5 @@
 pub mod Results
 pub mod Records
+pub mod Terms
+pub mod Trees
 pub mod Steps

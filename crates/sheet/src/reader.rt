@@ -1,2 +1,4 @@
 // The reader: from the bytes of a sheet to records, and from a record to its step.
 pub(crate) mod record;
+pub(crate) mod sum;
+pub(crate) mod term;

@@ -1,8 +1,8 @@
 ghost use mathlib.Core.Path.{_≡_};
-ghost use Prim.Native.Nat.{_≤_};
+ghost use Prim.Native.Nat.{_≤_, _<_};
 ghost use lib.ListN.{length};
 ghost use Rattle.std.specs.Vec.{made};
-ghost use Rattle.sheet.specs.Records.{recordAt, Within};
+ghost use Rattle.sheet.specs.Records.{recordAt, payload, positionAt, Within, Part};
 use crate::fault::ReaderFault;
 use domain::refusal::Refusal;
 
@@ -38,5 +38,37 @@ impl Record {
             start,
             end: start + length,
         })
+    }
+
+    // How long the payload is.
+    pub(crate) fn len(self) -> usize
+        requires { ⌜ self .start ≤ self .end ⌝ }
+        ensures { λ r. ⌜ r ≡ payload self ⌝ }
+    {
+        self.end - self.start
+    }
+
+    // A refusal, placed at this record.
+    pub(crate) fn fault(self, refusal: Refusal) -> ReaderFault
+        ensures { λ r. ⌜ r ≡ record { refusal = refusal; place = self .place } ⌝ }
+    {
+        ReaderFault {
+            refusal,
+            place: self.place,
+        }
+    }
+
+    // The byte of the payload at a place, which names a position.
+    pub(crate) fn position(self, sheet: &[u8], at: usize) -> Result<u8, ReaderFault>
+        requires { ⌜ at < length (now sheet) ⌝ }
+        ensures value { λ r. ⌜ r ≡ positionAt (now (sheet .entry)) self at ⌝ }
+        ensures small { λ r. ⌜ made r (λ p. p < 12) ⌝ }
+    {
+        let position = sheet[at];
+        if position < 12 {
+            Ok(position)
+        } else {
+            Err(self.fault(Refusal::Position))
+        }
     }
 }

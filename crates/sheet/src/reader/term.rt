@@ -1,0 +1,83 @@
+ghost use mathlib.Core.Path.{_≡_};
+ghost use Rattle.sheet.specs.Records.{Part, positionAt};
+ghost use Rattle.sheet.specs.Trees.{termKind, positionOf, constantOf, compoundBy, compoundOf, treeOf, summed};
+use crate::fault::ReaderFault;
+use crate::reader::record::Record;
+use crate::reader::sum::empty;
+use crate::reader::sum::join;
+use crate::reader::sum::single;
+use domain::refusal::Refusal;
+use domain::term::Term;
+
+// The kinds of terms.
+#[derive(Clone, Copy)]
+pub(crate) enum TermKind {
+    Position,
+    Constant,
+    Compound,
+}
+
+fn kind_numbered(number: u16) -> Option<TermKind>
+    ensures { λ r. ⌜ r ≡ termKind number ⌝ }
+{
+    match number {
+        17 => Some(TermKind::Position),
+        18 => Some(TermKind::Constant),
+        19 => Some(TermKind::Compound),
+        _ => None,
+    }
+}
+
+fn position(sheet: &[u8], record: Record) -> Result<Term, ReaderFault>
+    requires { ⌜ Part (now sheet) «record» ⌝ }
+    ensures { λ r. ⌜ r ≡ summed (positionOf (now (sheet .entry)) «record») ⌝ }
+{
+    if record.len() != 1 {
+        return Err(record.fault(Refusal::Length));
+    }
+    Ok(single(record.position(sheet, record.start)?))
+}
+
+fn constant(sheet: &[u8], record: Record) -> Result<Term, ReaderFault>
+    requires { ⌜ Part (now sheet) «record» ⌝ }
+    ensures { λ r. ⌜ r ≡ summed (constantOf (now (sheet .entry)) «record») ⌝ }
+{
+    if record.len() != 2 {
+        return Err(record.fault(Refusal::Length));
+    }
+    Ok(empty())
+}
+
+// A term in which `depth` compounds may still nest.
+fn nested(sheet: &[u8], record: Record, depth: u8) -> Result<Term, ReaderFault>
+    requires { ⌜ Part (now sheet) «record» ⌝ }
+    ensures { λ r. ⌜ r ≡ summed (treeOf (now (sheet .entry)) depth «record») ⌝ }
+{
+    match kind_numbered(record.kind) {
+        None => Err(record.fault(Refusal::Kind)),
+        Some(TermKind::Position) => position(sheet, record),
+        Some(TermKind::Constant) => constant(sheet, record),
+        Some(TermKind::Compound) => compound(sheet, record, depth),
+    }
+}
+
+// A compound, whose terms fill its payload after the functor number.
+fn compound(sheet: &[u8], record: Record, depth: u8) -> Result<Term, ReaderFault>
+    requires { ⌜ Part (now sheet) «record» ⌝ }
+    ensures { λ r. ⌜ r ≡ summed (compoundBy (now (sheet .entry)) (compoundOf (now (sheet .entry)) depth) «record») ⌝ }
+{
+    if record.len() < 6 {
+        return Err(record.fault(Refusal::Length));
+    }
+    if depth == 0 {
+        return Err(record.fault(Refusal::Depth));
+    }
+    let mut all = empty();
+    let mut at = record.start + 2;
+    while at < record.end {
+        let inner = Record::read(sheet, at, record.end)?;
+        all = join(all, nested(sheet, inner, depth - 1)?);
+        at = inner.end;
+    }
+    Ok(all)
+}
