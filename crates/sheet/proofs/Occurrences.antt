@@ -1,12 +1,18 @@
 -- What a summary holds is what occurs in the tree.
 use mathlib.Core.Path.{_≡_, refl, sym, _∙_, ap}
 use mathlib.Core.Bool.{Bool, true, false, cond}
+use mathlib.Core.List.{List}
 use Prim.Native.Nat.{ℕ, zero, suc, _+_, _-_, min, max}
 use native.Mathlib.Nat.{zero-add, add-zero, add-assoc}
 use native.Mathlib.Omega.{arith}
 use lib.Bits.{bitAnd, bitOr}
 use lib.Dec.{eqb}
 use Rattle.domain.specs.declared.term.Term.{Term}
+use Rattle.std.specs.Vec.{made}
+use Rattle.std.specs.declared.result.Result.the-variants.{Ok, Err}
+use Rattle.sheet.specs.declared.reader.record.Record.{Record}
+use Rattle.sheet.specs.Results.{Read}
+use Rattle.sheet.specs.Trees.{treeOf, summed, deepest, termOf, SumsUp}
 use Rattle.sheet.specs.Terms.{Tree, Args, position, constant, compound, none, more, occurrences, occurrencesIn, nothing, beside, summary, gathered, isPosition, Sums}
 use Rattle.sheet.proofs.Digits.{digit, digit-or, digit-and, digit-zero, digit-one}
 
@@ -76,3 +82,10 @@ sums tree = (
   (λ p. let h = counted tree p in ((λ i. omega (arith, i .digit)), (λ n. record { digit = omega arith }))),
   (λ p. let h = counted tree p in ((λ i. omega (arith, i .digit)), (λ n. record { digit = omega arith }))),
 )
+
+sums-read : (read : Read Tree) → made (summed read) (λ t. (tree : Tree) × (read ≡ Ok tree) × Sums tree t)
+sums-read (Ok tree) = (tree, refl, sums tree)
+sums-read (Err e) = tt
+
+pub sums-up : (bytes : List ℕ) (r : Record) (read : Read Term) → read ≡ termOf bytes r → SumsUp bytes r read
+sums-up bytes r read e = rw e (sums-read (treeOf bytes deepest r))

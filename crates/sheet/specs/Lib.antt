@@ -1,4 +1,5 @@
 pub mod Results
+pub mod Kinds
 pub mod Records
 pub mod Terms
 pub mod Trees

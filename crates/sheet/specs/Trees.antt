@@ -1,5 +1,6 @@
 -- Reading a term: the tree that the bytes of its record hold, or the first fault.
-use mathlib.Core.Bool.{true, false, cond, not}
+use mathlib.Core.Path.{_≡_}
+use mathlib.Core.Bool.{true, false, not}
 use mathlib.Core.List.{List}
 use Prim.Native.Nat.{ℕ, zero, suc, _+_}
 use lib.Dec.{eqb, ltb}
@@ -8,20 +9,14 @@ use Rattle.domain.specs.declared.term.Term.{Term}
 use Rattle.std.specs.declared.option.Option.{Option}
 use Rattle.std.specs.declared.option.Option.the-variants.{Some, None}
 use Rattle.std.specs.declared.result.Result.the-variants.{Ok}
+use Rattle.std.specs.Vec.{made}
 use Rattle.sheet.specs.declared.reader.record.Record.{Record}
 use Rattle.sheet.specs.declared.reader.term.TermKind.{TermKind}
 use Rattle.sheet.specs.declared.reader.term.TermKind.the-variants.{Position, Constant, Compound}
 use Rattle.sheet.specs.Results.{Read, _>>=_, fault, refuse}
+use Rattle.sheet.specs.Kinds.{termKind}
 use Rattle.sheet.specs.Records.{pairAt, recordAt, payload, positionAt}
-use Rattle.sheet.specs.Terms.{Tree, Args, position, constant, compound, none, more, summary}
-
--- the kinds of terms, by number
-abbrev pub termKind : ℕ → Option TermKind
-termKind n =
-    cond (eqb n 17) (Some Position)
-    (cond (eqb n 18) (Some Constant)
-    (cond (eqb n 19) (Some Compound)
-    None))
+use Rattle.sheet.specs.Terms.{Tree, Args, position, constant, compound, none, more, summary, Sums}
 
 abbrev pub positionOf : List ℕ → Record → Read Tree
 positionOf bytes r =
@@ -74,3 +69,14 @@ treeAt bytes depth at end = recordAt bytes at end >>= treeOf bytes depth
 -- what a bind has to know of the term that is read
 abbrev pub summed : Read Tree → Read Term
 summed read = read >>= λ tree. Ok (summary tree)
+
+-- how deep compounds may nest
+abbrev pub deepest : ℕ
+deepest = 16
+
+abbrev pub termOf : List ℕ → Record → Read Term
+termOf bytes r = summed (treeOf bytes deepest r)
+
+-- the law of what is read: it sums up the term that the bytes hold
+abbrev pub SumsUp : List ℕ → Record → Read Term → Type 0
+SumsUp bytes r read = made read (λ t. (tree : Tree) × (treeOf bytes deepest r ≡ Ok tree) × Sums tree t)

@@ -1,4 +1,5 @@
 ghost use mathlib.Core.Path.{_≡_};
+ghost use Rattle.sheet.specs.Kinds.{stepKind, stepName};
 ghost use Rattle.sheet.specs.Steps.{kindOf};
 use domain::term::Term;
 use domain::term::TermDebug;
@@ -11,6 +12,33 @@ pub enum StepKind {
     Bind,
     Ask,
     End,
+}
+
+impl StepKind {
+    // The kind that has this number on a sheet.
+    pub fn numbered(number: u16) -> Option<StepKind>
+        ensures { λ r. ⌜ r ≡ stepKind number ⌝ }
+    {
+        match number {
+            1 => Some(StepKind::Open),
+            2 => Some(StepKind::Bind),
+            5 => Some(StepKind::Ask),
+            6 => Some(StepKind::End),
+            _ => None,
+        }
+    }
+
+    // The name that a line prints.
+    pub fn name(self) -> &'static str
+        ensures { λ r. ⌜ now r ≡ stepName self ⌝ }
+    {
+        match self {
+            StepKind::Open => "open",
+            StepKind::Bind => "bind",
+            StepKind::Ask => "ask",
+            StepKind::End => "end",
+        }
+    }
 }
 
 // A question to the keeper, with the positions that it is about.

@@ -1,6 +1,7 @@
 ghost use mathlib.Core.Path.{_≡_};
-ghost use Rattle.sheet.specs.Records.{Part, positionAt};
-ghost use Rattle.sheet.specs.Trees.{termKind, positionOf, constantOf, compoundBy, compoundOf, treeOf, summed};
+ghost use Rattle.sheet.specs.Records.{Part};
+ghost use Rattle.sheet.specs.Kinds.{termKind};
+ghost use Rattle.sheet.specs.Trees.{positionOf, constantOf, compoundBy, compoundOf, treeOf, summed, termOf, SumsUp};
 use crate::fault::ReaderFault;
 use crate::reader::record::Record;
 use crate::reader::sum::empty;
@@ -17,15 +18,29 @@ pub(crate) enum TermKind {
     Compound,
 }
 
-fn kind_numbered(number: u16) -> Option<TermKind>
-    ensures { λ r. ⌜ r ≡ termKind number ⌝ }
-{
-    match number {
-        17 => Some(TermKind::Position),
-        18 => Some(TermKind::Constant),
-        19 => Some(TermKind::Compound),
-        _ => None,
+// Compounds nest at most this deep, the outermost counting as 1.
+const DEEPEST: u8 = 16;
+
+impl TermKind {
+    fn numbered(number: u16) -> Option<TermKind>
+        ensures { λ r. ⌜ r ≡ termKind number ⌝ }
+    {
+        match number {
+            17 => Some(TermKind::Position),
+            18 => Some(TermKind::Constant),
+            19 => Some(TermKind::Compound),
+            _ => None,
+        }
     }
+}
+
+// The term of a record, summed up.
+pub(crate) fn read_term(sheet: &[u8], record: Record) -> Result<Term, ReaderFault>
+    requires { ⌜ Part (now sheet) «record» ⌝ }
+    ensures value { λ r. ⌜ r ≡ termOf (now (sheet .entry)) «record» ⌝ }
+    ensures law { λ r. ⌜ SumsUp (now (sheet .entry)) «record» r ⌝ }
+{
+    nested(sheet, record, DEEPEST)
 }
 
 fn position(sheet: &[u8], record: Record) -> Result<Term, ReaderFault>
@@ -53,7 +68,7 @@ fn nested(sheet: &[u8], record: Record, depth: u8) -> Result<Term, ReaderFault>
     requires { ⌜ Part (now sheet) «record» ⌝ }
     ensures { λ r. ⌜ r ≡ summed (treeOf (now (sheet .entry)) depth «record») ⌝ }
 {
-    match kind_numbered(record.kind) {
+    match TermKind::numbered(record.kind) {
         None => Err(record.fault(Refusal::Kind)),
         Some(TermKind::Position) => position(sheet, record),
         Some(TermKind::Constant) => constant(sheet, record),
