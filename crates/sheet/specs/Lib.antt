@@ -4,3 +4,4 @@ pub mod Records
 pub mod Terms
 pub mod Trees
 pub mod Steps
+pub mod Marks
