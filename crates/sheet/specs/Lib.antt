@@ -5,3 +5,4 @@ pub mod Terms
 pub mod Trees
 pub mod Steps
 pub mod Marks
+pub mod Lines
