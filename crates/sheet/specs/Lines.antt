@@ -23,9 +23,11 @@ abbrev pub newline : List ℕ
 newline = 10 ∷ []
 
 -- place, kind and answer
+abbrev pub markText : StepMark → List ℕ
+markText m = decimal (m .place) ++ (codes " " ++ (stepName (m .kind) ++ (codes " " ++ answerName (m .answer))))
+
 abbrev pub markLine : StepMark → List ℕ
-markLine m =
-    decimal (m .place) ++ (codes " " ++ (stepName (m .kind) ++ (codes " " ++ (answerName (m .answer) ++ newline))))
+markLine m = markText m ++ newline
 
 -- number, place, step and layer
 abbrev pub refusalLine : ℕ → ℕ → ℕ → Layer → List ℕ

@@ -1,20 +1,31 @@
 ghost use mathlib.Core.Path.{_≡_};
 ghost use Rattle.std.specs.Of.String.{string-bytes};
 ghost use Rattle.std.specs.Vec.{made};
-ghost use Rattle.sheet.specs.Lines.{answerName, layerName, markLine, refusalLine};
+ghost use Rattle.std.specs.declared.option.Option.the-variants.{Some};
+ghost use Rattle.sheet.specs.Lines.{answerName, layerName, markText, markLine, refusalLine};
 use crate::mark::StepMark;
 use domain::refusal::Layer;
 use std::alloc::AllocError;
 use std::alloc::Global;
+use std::fmt;
 
-// The line of a step that was done: its place, its kind and its answer.
+// Place, kind and answer of a step that was done.
+pub impl fmt::Display for StepMark as StepMarkDisplay {
+    ghost shown = { λ m. Some (markText m) };
+
+    fn fmt<W: fmt::Write>(&self, f: &mut fmt::Formatter<W>) -> fmt::Result {
+        let place = self.place;
+        let kind = self.kind.name();
+        let answer = answer_name(self.answer);
+        write!(f, "{place} {kind} {answer}")
+    }
+}
+
+// The line of a step that was done.
 pub fn mark_line(heap: Global, mark: StepMark) -> Result<String, AllocError>
     ensures { λ r. ⌜ made r (λ s. string-bytes s ≡ markLine mark) ⌝ }
 {
-    let place = mark.place;
-    let kind = mark.kind.name();
-    let answer = answer_name(mark.answer);
-    format!(heap, "{place} {kind} {answer}\n")
+    format!(heap, "{mark}\n")
 }
 
 // The last line of a sheet that was refused: the refusal's number, its place, its step and who refuses.
