@@ -5,7 +5,7 @@ use mathlib.Core.List.{List}
 use Prim.Native.Nat.{ℕ, zero, suc, _+_, _-_, _≤_, _<_}
 use native.Mathlib.Omega.{arith}
 use lib.Dec.{eqb}
-use Rattle.std.proofs.shelf.Tests.{ne-eqb, eq-eqb, le-ltb}
+use Rattle.std.proofs.shelf.Tests.{ne-eqb, eq-eqb}
 use Rattle.domain.specs.declared.term.Term.{Term}
 use Rattle.std.specs.declared.result.Result.the-variants.{Ok, Err}
 use Rattle.sheet.specs.declared.fault.ReaderFault.{ReaderFault}
@@ -14,10 +14,7 @@ use Rattle.domain.specs.declared.refusal.Refusal.the-variants.{Depth}
 use Rattle.sheet.specs.Results.{Read, _>>=_, fault}
 use Rattle.sheet.specs.Records.{recordAt, payload}
 use Rattle.sheet.specs.Terms.{Tree, Args, compound, none, more, summary, gathered, nothing, beside}
-use Rattle.sheet.specs.Trees.{argsBy, compoundBy, compoundOf, treeOf, summed}
-
-abbrev pub onto : Term → Read Args → Read Term
-onto all read = read >>= λ args. Ok (gathered args all)
+use Rattle.sheet.specs.Trees.{argsBy, argsOf, compoundOf, treeOf, summed, onto}
 
 -- what the terms from a place on make of what is gathered so far is the whole
 abbrev pub From : List ℕ → (Record → Read Tree) → Term → ℕ → ℕ → Read Term → Type 0
@@ -32,17 +29,11 @@ onto-compound : (f : ℕ) (read : Read Args) → onto nothing read ≡ summed (r
 onto-compound f (Ok args) = refl
 onto-compound f (Err e) = refl
 
-pub from-start : (bytes : List ℕ) (depth : ℕ) (r : Record) → 0 < depth → From bytes (treeOf bytes (depth - 1)) nothing (r .start + 2) (r .end) (summed (compoundOf bytes depth r))
+pub deeper : (bytes : List ℕ) (depth : ℕ) (r : Record) → 0 < depth → onto nothing (argsOf bytes (treeOf bytes (depth - 1)) r) ≡ summed (compoundOf bytes depth r)
 unfolding compoundOf
-from-start bytes zero r h = absurd (omega arith)
-from-start bytes (suc depth) r h = (
-  payload r,
-  omega arith,
-  let less : suc depth - 1 ≡ depth = omega arith in rw less (onto-compound _ (argsBy bytes (treeOf bytes depth) (payload r) (r .start + 2) (r .end))),
-)
-
-pub long-enough : (bytes : List ℕ) (inner : Record → Read Tree) (r : Record) → 6 ≤ payload r → inner r ≡ compoundBy bytes inner r
-long-enough bytes inner r h = rw (le-ltb (payload r) 6 h)
+deeper bytes zero r h = absurd (omega arith)
+deeper bytes (suc depth) r h =
+    let less : suc depth - 1 ≡ depth = omega arith in rw less (onto-compound _ (argsOf bytes (treeOf bytes depth) r))
 
 pub too-deep : (bytes : List ℕ) (depth : ℕ) (r : Record) → depth ≡ 0 → compoundOf bytes depth r ≡ fault Depth (r .place)
 unfolding compoundOf
@@ -65,6 +56,9 @@ module _ (bytes : List ℕ) (tree : Record → Read Tree) where
   unfolding argsBy
   args-turn turns at end h = let e : eqb at end ≡ false = ne-eqb at end (omega arith) in rw (e, argsBy) refl
 
+  pub from-start : (r : Record) → From bytes tree nothing (r .start + 2) (r .end) (onto nothing (argsOf bytes tree r))
+  from-start r = (payload r, omega arith, refl)
+
   module _ (all : Term) (at end : ℕ) (whole : Read Term) where
     pub from-end : at ≡ end → From bytes tree all at end whole → Ok all ≡ whole
     from-end e (turns, _, h) = sym (ap (onto all) (args-done turns end)) ∙ (rw e at h)
@@ -73,24 +67,24 @@ module _ (bytes : List ℕ) (tree : Record → Read Tree) where
     turned lt (zero, enough, h) = absurd (omega arith)
     turned lt (suc turns, enough, h) = (turns, enough, rw (args-turn turns at end lt) at h)
 
-    pub stop-record : (e : ReaderFault) → at < end → recordAt bytes at end ≡ Err e → From bytes tree all at end whole → Err e ≡ whole
-    stop-record e lt is from = let k = turned lt from in sym (ap (λ x. onto all (after-record (k .0) end x)) is) ∙ k .2
+    pub stop-record : (e : ReaderFault) → at < end → Err e ≡ recordAt bytes at end → From bytes tree all at end whole → Err e ≡ whole
+    stop-record e lt is from = let k = turned lt from in ap (λ x. onto all (after-record (k .0) end x)) is ∙ k .2
 
-    module _ (r : Record) (lt : at < end) (is : recordAt bytes at end ≡ Ok r) where
+    module _ (r : Record) (lt : at < end) (is : Ok r ≡ recordAt bytes at end) where
       at-tree : From bytes tree all at end whole → (turns : ℕ) × (end - at ≤ suc turns) × (onto all (after-tree turns (r .end) end (tree r)) ≡ whole)
       at-tree from =
           let k = turned lt from in
-          (k .0, k .1, sym (ap (λ x. onto all (after-record (k .0) end x)) is) ∙ k .2)
+          (k .0, k .1, ap (λ x. onto all (after-record (k .0) end x)) is ∙ k .2)
 
-      stop-at : (e : ReaderFault) (read : Read Tree) → tree r ≡ read → summed read ≡ Err e → From bytes tree all at end whole → Err e ≡ whole
+      stop-at : (e : ReaderFault) (read : Read Tree) → tree r ≡ read → Err e ≡ summed read → From bytes tree all at end whole → Err e ≡ whole
       stop-at e (Ok t) same is from = absurd (let z : _≡_ {A = ℕ} 0 1 = cc in omega arith)
       stop-at e (Err d) same is from =
-          let k = at-tree from in sym is ∙ sym (ap (λ x. onto all (after-tree (k .0) (r .end) end x)) same) ∙ k .2
+          let k = at-tree from in is ∙ sym (ap (λ x. onto all (after-tree (k .0) (r .end) end x)) same) ∙ k .2
 
-      pub stop-tree : (e : ReaderFault) → summed (tree r) ≡ Err e → From bytes tree all at end whole → Err e ≡ whole
+      pub stop-tree : (e : ReaderFault) → Err e ≡ summed (tree r) → From bytes tree all at end whole → Err e ≡ whole
       stop-tree e = stop-at e (tree r) refl
 
-      next-at : (u : Term) (read : Read Tree) → tree r ≡ read → summed read ≡ Ok u → at < r .end → From bytes tree all at end whole → From bytes tree (beside all u) (r .end) end whole
+      next-at : (u : Term) (read : Read Tree) → tree r ≡ read → Ok u ≡ summed read → at < r .end → From bytes tree all at end whole → From bytes tree (beside all u) (r .end) end whole
       next-at u (Ok t) same is further from =
           let k = at-tree from in
           let v : summary t ≡ u = cc in (
@@ -103,5 +97,5 @@ module _ (bytes : List ℕ) (tree : Record → Read Tree) where
           )
       next-at u (Err d) same is further from = absurd (let z : _≡_ {A = ℕ} 0 1 = cc in omega arith)
 
-      pub next-from : (u : Term) → summed (tree r) ≡ Ok u → at < r .end → From bytes tree all at end whole → From bytes tree (beside all u) (r .end) end whole
+      pub next-from : (u : Term) → Ok u ≡ summed (tree r) → at < r .end → From bytes tree all at end whole → From bytes tree (beside all u) (r .end) end whole
       next-from u = next-at u (tree r) refl

@@ -16,7 +16,7 @@ use Rattle.sheet.specs.declared.reader.term.TermKind.the-variants.{Position, C
 use Rattle.sheet.specs.Results.{Read, _>>=_, fault, refuse}
 use Rattle.sheet.specs.Kinds.{termKind}
 use Rattle.sheet.specs.Records.{pairAt, recordAt, payload, positionAt}
-use Rattle.sheet.specs.Terms.{Tree, Args, position, constant, compound, none, more, summary, Sums}
+use Rattle.sheet.specs.Terms.{Tree, Args, position, constant, compound, none, more, summary, gathered, Sums}
 
 abbrev pub positionOf : List ℕ → Record → Read Tree
 positionOf bytes r =
@@ -38,7 +38,7 @@ treeBy bytes inner r (Some Position) = positionOf bytes r
 treeBy bytes inner r (Some Constant) = constantOf bytes r
 treeBy bytes inner r (Some Compound) = compoundBy bytes inner r
 
--- the terms from a place to an end, each read by `tree`. There are at most `turns`, and no more than bytes
+-- the terms from a place to an end, each read by `tree`, in at most so many turns
 unfoldable pub argsBy : List ℕ → (Record → Read Tree) → ℕ → ℕ → ℕ → Read Args
 argsBy bytes tree zero at end = Ok none
 argsBy bytes tree (suc turns) at end =
@@ -51,11 +51,15 @@ argsBy bytes tree (suc turns) at end =
           Ok (more t ts)
     ]
 
--- a compound, where `depth` more may nest
+-- the terms after the functor number. No record is empty, so as many turns as bytes are enough
+abbrev pub argsOf : List ℕ → (Record → Read Tree) → Record → Read Args
+argsOf bytes tree r = argsBy bytes tree (payload r) (r .start + 2) (r .end)
+
+-- a compound, where `depth` may nest, this one counted
 unfoldable pub compoundOf : List ℕ → ℕ → Record → Read Tree
 compoundOf bytes zero r = fault Depth (r .place)
 compoundOf bytes (suc depth) r =
-    argsBy bytes (λ x. treeBy bytes (compoundOf bytes depth) x (termKind (x .kind))) (payload r) (r .start + 2) (r .end) >>= λ args.
+    argsOf bytes (λ x. treeBy bytes (compoundOf bytes depth) x (termKind (x .kind))) r >>= λ args.
     Ok (compound (pairAt bytes (r .start)) args)
 
 -- the term of a record
@@ -69,6 +73,10 @@ treeAt bytes depth at end = recordAt bytes at end >>= treeOf bytes depth
 -- what a bind has to know of the term that is read
 abbrev pub summed : Read Tree → Read Term
 summed read = read >>= λ tree. Ok (summary tree)
+
+-- the same of terms that are read, beside what came before them
+abbrev pub onto : Term → Read Args → Read Term
+onto before read = read >>= λ args. Ok (gathered args before)
 
 -- how deep compounds may nest
 abbrev pub deepest : ℕ

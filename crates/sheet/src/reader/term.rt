@@ -1,7 +1,9 @@
 ghost use mathlib.Core.Path.{_≡_};
-ghost use Rattle.sheet.specs.Records.{Part};
+ghost use Prim.Native.Nat.{_≤_};
+ghost use Rattle.sheet.specs.Records.{Part, payload};
 ghost use Rattle.sheet.specs.Kinds.{termKind};
-ghost use Rattle.sheet.specs.Trees.{positionOf, constantOf, compoundBy, compoundOf, treeOf, summed, termOf, SumsUp};
+ghost use Rattle.sheet.specs.Terms.{nothing};
+ghost use Rattle.sheet.specs.Trees.{positionOf, constantOf, compoundBy, compoundOf, argsOf, treeOf, summed, onto, termOf, SumsUp};
 use crate::fault::ReaderFault;
 use crate::reader::record::Record;
 use crate::reader::sum::empty;
@@ -87,11 +89,19 @@ fn compound(sheet: &[u8], record: Record, depth: u8) -> Result<Term, ReaderFault
     if depth == 0 {
         return Err(record.fault(Refusal::Depth));
     }
+    arguments(sheet, record, depth - 1)
+}
+
+// The terms of a compound side by side, in each of which `depth` compounds may still nest.
+fn arguments(sheet: &[u8], record: Record, depth: u8) -> Result<Term, ReaderFault>
+    requires { ⌜ Part (now sheet) «record» ⌝ ∗ ⌜ 2 ≤ payload «record» ⌝ }
+    ensures { λ r. ⌜ r ≡ onto nothing (argsOf (now (sheet .entry)) (treeOf (now (sheet .entry)) depth) «record») ⌝ }
+{
     let mut all = empty();
     let mut at = record.start + 2;
     while at < record.end {
         let inner = Record::read(sheet, at, record.end)?;
-        all = join(all, nested(sheet, inner, depth - 1)?);
+        all = join(all, nested(sheet, inner, depth)?);
         at = inner.end;
     }
     Ok(all)
