@@ -4,3 +4,5 @@ pub mod line;
 pub mod mark;
 pub(crate) mod reader;
 pub mod step;
+#[cfg(test)]
+mod tests;
