@@ -11,7 +11,7 @@ use Rattle.std.specs.declared.result.Result.the-variants.{Ok, Err}
 use Rattle.sheet.specs.declared.fault.ReaderFault.{ReaderFault}
 use Rattle.sheet.specs.declared.reader.record.Record.{Record}
 use Rattle.domain.specs.declared.refusal.Refusal.the-variants.{Depth}
-use Rattle.sheet.specs.Results.{Read, _>>=_, fault}
+use Rattle.sheet.specs.Reading.{Read, _>>=_, fault}
 use Rattle.sheet.specs.Records.{recordAt, payload}
 use Rattle.sheet.specs.Terms.{Tree, Args, compound, none, more, summary, gathered, nothing, beside}
 use Rattle.sheet.specs.Trees.{argsBy, argsOf, compoundOf, treeOf, summed, onto}

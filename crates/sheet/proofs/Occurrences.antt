@@ -11,7 +11,7 @@ use Rattle.domain.specs.declared.term.Term.{Term}
 use Rattle.std.specs.Vec.{made}
 use Rattle.std.specs.declared.result.Result.the-variants.{Ok, Err}
 use Rattle.sheet.specs.declared.reader.record.Record.{Record}
-use Rattle.sheet.specs.Results.{Read}
+use Rattle.sheet.specs.Reading.{Read}
 use Rattle.sheet.specs.Trees.{treeOf, summed, deepest, termOf, SumsUp}
 use Rattle.sheet.specs.Terms.{Tree, Args, position, constant, compound, none, more, occurrences, occurrencesIn, nothing, beside, summary, gathered, isPosition, Sums}
 use Rattle.sheet.proofs.Digits.{digit, digit-or, digit-and, digit-zero, digit-one}

@@ -1,4 +1,4 @@
-pub mod Results
+pub mod Reading
 pub mod Kinds
 pub mod Records
 pub mod Terms

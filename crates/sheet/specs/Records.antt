@@ -7,7 +7,7 @@ use lib.ListN.{getD, length}
 use Rattle.domain.specs.declared.refusal.Refusal.the-variants.{Truncated, Position}
 use Rattle.std.specs.declared.result.Result.the-variants.{Ok}
 use Rattle.sheet.specs.declared.reader.record.Record.{Record}
-use Rattle.sheet.specs.Results.{Read, refuse}
+use Rattle.sheet.specs.Reading.{Read, refuse}
 
 abbrev pub byteAt : List ℕ → ℕ → ℕ
 byteAt bytes i = getD bytes i 0

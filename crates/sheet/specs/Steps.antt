@@ -14,7 +14,7 @@ use Rattle.sheet.specs.declared.step.Step.{Step}
 use Rattle.sheet.specs.declared.step.Step.the-variants as step
 use Rattle.sheet.specs.declared.step.StepKind.{StepKind}
 use Rattle.sheet.specs.declared.step.StepKind.the-variants.{Open, Bind, Ask, End}
-use Rattle.sheet.specs.Results.{Read, _>>=_, fault, refuse}
+use Rattle.sheet.specs.Reading.{Read, _>>=_, fault, refuse}
 use Rattle.sheet.specs.Kinds.{stepKind}
 use Rattle.sheet.specs.Records.{byteAt, recordAt, payload, positionAt}
 use Rattle.sheet.specs.Trees.{termOf}

@@ -13,7 +13,7 @@ use Rattle.std.specs.Vec.{made}
 use Rattle.sheet.specs.declared.reader.record.Record.{Record}
 use Rattle.sheet.specs.declared.reader.term.TermKind.{TermKind}
 use Rattle.sheet.specs.declared.reader.term.TermKind.the-variants.{Position, Constant, Compound}
-use Rattle.sheet.specs.Results.{Read, _>>=_, fault, refuse}
+use Rattle.sheet.specs.Reading.{Read, _>>=_, fault, refuse}
 use Rattle.sheet.specs.Kinds.{termKind}
 use Rattle.sheet.specs.Records.{pairAt, recordAt, payload, positionAt}
 use Rattle.sheet.specs.Terms.{Tree, Args, position, constant, compound, none, more, summary, gathered, Sums}

@@ -55,8 +55,8 @@ pub enum Question {
 pub enum Step {
     // the number of positions
     Open(u8),
-    // a position, and what is known of the term that it is bound to
-    Bind(u8, Term),
+    // the position, and what is known of the term that it is bound to
+    Bind { position: u8, term: Term },
     Ask(Question),
     End,
 }
@@ -67,7 +67,7 @@ impl Step {
     {
         match self {
             Step::Open(_) => StepKind::Open,
-            Step::Bind(_, _) => StepKind::Bind,
+            Step::Bind { .. } => StepKind::Bind,
             Step::Ask(_) => StepKind::Ask,
             Step::End => StepKind::End,
         }

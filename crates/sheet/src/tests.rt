@@ -26,17 +26,12 @@ fn first(sheet: &[u8]) -> Result<Step, ReaderFault> {
 }
 
 fn bound(sheet: &[u8], bare: bool, held: u16, repeated: u16) -> Result<(), Fail> {
-    check_eq(
-        first(sheet),
-        Ok(Step::Bind(
-            0,
-            Term {
-                bare,
-                held,
-                repeated,
-            },
-        )),
-    )
+    let term = Term {
+        bare,
+        held,
+        repeated,
+    };
+    check_eq(first(sheet), Ok(Step::Bind { position: 0, term }))
 }
 
 fn refused(sheet: &[u8], refusal: Refusal, place: usize) -> Result<(), Fail> {
@@ -85,24 +80,16 @@ fn nests_sixteen_deep() -> Result<(), Fail> {
     refused(&tower(17), Refusal::Depth, 101)
 }
 
+fn asked(sheet: &[u8], question: Question) -> Result<(), Fail> {
+    check_eq(first(sheet), Ok(Step::Ask(question)))
+}
+
 #[test]
 fn questions() -> Result<(), Fail> {
-    check_eq(
-        first(b"\x02\0\x05\0g\x0b"),
-        Ok(Step::Ask(Question::Ground(11))),
-    )?;
-    check_eq(
-        first(b"\x02\0\x05\0f\x01"),
-        Ok(Step::Ask(Question::Free(1))),
-    )?;
-    check_eq(
-        first(b"\x02\0\x05\0l\x02"),
-        Ok(Step::Ask(Question::Linear(2))),
-    )?;
-    check_eq(
-        first(b"\x03\0\x05\0p\0\x01"),
-        Ok(Step::Ask(Question::Pair(0, 1))),
-    )
+    asked(b"\x02\0\x05\0g\x0b", Question::Ground(11))?;
+    asked(b"\x02\0\x05\0f\x01", Question::Free(1))?;
+    asked(b"\x02\0\x05\0l\x02", Question::Linear(2))?;
+    asked(b"\x03\0\x05\0p\0\x01", Question::Pair(0, 1))
 }
 
 #[test]

@@ -6,6 +6,12 @@ ghost use Rattle.sheet.specs.Records.{recordAt, payload, positionAt, Within, P
 use crate::fault::ReaderFault;
 use domain::refusal::Refusal;
 
+// A length and a kind stand before the payload.
+const HEAD: usize = 4;
+
+// No description has more positions.
+const POSITIONS: u8 = 12;
+
 // A record of the sheet: where it starts, its kind, and where its payload starts and ends.
 #[derive(Clone, Copy)]
 pub(crate) struct Record {
@@ -23,12 +29,12 @@ impl Record {
         ensures within { λ r. ⌜ made r (λ x. Within at end x) ⌝ }
     {
         let refusal = Refusal::Truncated;
-        if end - at < 4 {
+        if end - at < HEAD {
             return Err(ReaderFault { refusal, place: at });
         }
         let length = u16::from_le_bytes([sheet[at], sheet[at + 1]]) as usize;
         let kind = u16::from_le_bytes([sheet[at + 2], sheet[at + 3]]);
-        let start = at + 4;
+        let start = at + HEAD;
         if end - start < length {
             return Err(ReaderFault { refusal, place: at });
         }
@@ -65,7 +71,7 @@ impl Record {
         ensures small { λ r. ⌜ made r (λ p. p < 12) ⌝ }
     {
         let position = sheet[at];
-        if position < 12 {
+        if position < POSITIONS {
             Ok(position)
         } else {
             Err(self.fault(Refusal::Position))

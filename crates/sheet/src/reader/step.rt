@@ -56,7 +56,7 @@ fn bind(sheet: &[u8], record: Record) -> Result<Step, ReaderFault>
     if inner.end != record.end {
         return Err(record.fault(Refusal::Length));
     }
-    Ok(Step::Bind(position, term))
+    Ok(Step::Bind { position, term })
 }
 
 fn ask(sheet: &[u8], record: Record) -> Result<Step, ReaderFault>
