@@ -1,3 +1,4 @@
 pub mod Arguments
 pub mod Digits
 pub mod Occurrences
+pub mod Runs

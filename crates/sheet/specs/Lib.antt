@@ -6,3 +6,8 @@ pub mod Trees
 pub mod Steps
 pub mod Marks
 pub mod Lines
+pub mod Faults
+pub mod Running
+pub mod Serving
+pub mod Playing
+pub mod Turning

@@ -35,12 +35,12 @@ unopened (Some d) h = absurd (let z : _≡_ {A = Bool} true false = h in let q :
 
 -- the new description is what the keeper tells
 pub opens-new : (n scratch : ℕ) (o : Option Description) (d : Description) → isSome o ≡ false
-  → Gives (firstOf (openTests n)) (Ok d) (λ e. New n (told e)) → 512 ≤ scratch
-  → Opens 4095 n scratch (toldBy o) (told d) (Ok tt)
+    → Gives (firstOf (openTests n)) (Ok d) (λ e. New n (told e)) → 512 ≤ scratch
+    → Opens 4095 n scratch (toldBy o) (told d) (Ok tt)
 opens-new n scratch o d none h room =
     subst (λ (x : Told). Opens 4095 n scratch x (told d) (Ok tt)) (sym (unopened o none)) (go (eqb n 0 || ltb 12 n) h)
   where
     go : (b : Bool) → Gives (pick b Count None) (Ok d) (λ e. New n (told e))
-      → Changes (pick b Count (pick (ltb scratch 512) Room None)) 4095 (New n) Exactly nothing (told d) (Ok tt)
+        → Changes (pick b Count (pick (ltb scratch 512) Room None)) 4095 (New n) Exactly nothing (told d) (Ok tt)
     go true h = absurd (let q = h in let z : _≡_ {A = ℕ} 0 1 = cc in omega arith)
     go false h = rw (le-ltb scratch 512 room) (told d, h, fits-all (told d) (lawful d), refl)
