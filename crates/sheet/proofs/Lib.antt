@@ -2,3 +2,4 @@ pub mod Arguments
 pub mod Digits
 pub mod Occurrences
 pub mod Runs
+pub mod Transcripts

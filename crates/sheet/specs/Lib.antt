@@ -11,3 +11,4 @@ pub mod Running
 pub mod Serving
 pub mod Playing
 pub mod Turning
+pub mod Transcripts

@@ -5,5 +5,6 @@ pub mod mark;
 pub(crate) mod reader;
 pub mod runner;
 pub mod step;
+pub mod transcript;
 #[cfg(test)]
 mod tests;
