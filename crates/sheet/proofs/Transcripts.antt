@@ -13,7 +13,7 @@ lines-append [] ns = refl
 lines-append (m ∷ ms) ns = ap (λ (l : List ℕ). markLine m ++ l) (lines-append ms ns) ∙ sym (append-assoc (markLine m) (linesOf ms) (linesOf ns))
 
 pub lines-more : (ms : List StepMark) (i : ℕ) (d : StepMark) → i < length ms
-  → linesOf (take (i + 1) ms) ≡ linesOf (take i ms) ++ markLine (getD ms i d)
+    → linesOf (take (i + 1) ms) ≡ linesOf (take i ms) ++ markLine (getD ms i d)
 lines-more ms i d h =
     ap linesOf (take-more ms i d h) ∙ lines-append (take i ms) (getD ms i d ∷ [])
     ∙ ap (λ (l : List ℕ). linesOf (take i ms) ++ l) (append-nil (markLine (getD ms i d)))

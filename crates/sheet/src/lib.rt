@@ -5,6 +5,6 @@ pub mod mark;
 pub(crate) mod reader;
 pub mod runner;
 pub mod step;
-pub mod transcript;
 #[cfg(test)]
 mod tests;
+pub mod transcript;

@@ -12,7 +12,11 @@ use std::alloc::AllocError;
 use std::alloc::Global;
 
 // A line for each step that was done, then one for the refusal if there was one.
-pub fn transcript(heap: Global, marks: &[StepMark], outcome: Result<usize, SheetFault>) -> Result<String, AllocError>
+pub fn transcript(
+    heap: Global,
+    marks: &[StepMark],
+    outcome: Result<usize, SheetFault>,
+) -> Result<String, AllocError>
     ensures { λ r. ⌜ made r (λ s. string-bytes s ≡ transcriptOf (now (marks .entry)) outcome) ⌝ }
 {
     match outcome {
