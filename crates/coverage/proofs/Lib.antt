@@ -1,3 +1,4 @@
 pub mod Bits
 pub mod Cover
 pub mod CoreLeast
+pub mod BindCover
