@@ -209,6 +209,13 @@ made-sides PositionLinear u m = sides (λ l. x-closed tt) (λ r. t-extended) m
 made-sides TermLinear u m = sides (λ l. x-extended) (λ r. t-closed tt) m
 made-sides Neither u m = sides (λ l. x-closed tt) (λ r. t-closed tt) m
 
+-- every group that a case makes holds x
+pub made-holds : (G : ℕ → Type 0) (x v : ℕ) (c : Case) (u : ℕ) → Made G x v c u → In x u
+made-holds G x v c u m =
+    let k = made-sides {G = G} {v = v} c u m in
+    let n = k .x-side .union in
+    rw (← k .whole) (in-or-left (k .right) (n .some-inside .each x (n .some-told .holds)))
+
 -- ---- from the new groups to the closed form
 
 both-linked : {G : ℕ → Type 0} {x v : ℕ} {c : Case} (l r : ℕ) {p q : ℕ} → XSide G x v c l → TSide G x v c r → In p l ⊎ In p r → In q l ⊎ In q r → Linked (Covers G) x v c (bitOr l r) p q

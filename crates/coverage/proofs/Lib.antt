@@ -4,3 +4,6 @@ pub mod CoreLeast
 pub mod BindCover
 pub mod Places
 pub mod BindAlike
+pub mod JoinCover
+pub mod ForgetCover
+pub mod Kept

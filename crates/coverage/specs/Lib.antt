@@ -1,2 +1,5 @@
 pub mod CoreLaws
 pub mod BindLaws
+pub mod JoinLaws
+pub mod ForgetLaws
+pub mod Rules
