@@ -2,4 +2,5 @@
 // and how binding a position to a term changes that.
 pub mod case;
 pub mod refusal;
+pub mod table;
 pub mod term;

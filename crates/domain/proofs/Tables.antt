@@ -1,0 +1,68 @@
+-- One bit of a byte, and of a table of bytes.
+use mathlib.Core.Path.{_≡_, refl, sym, ap, _∙_}
+use mathlib.Core.Logic.{_⊎_, inl, inr, _≢_}
+use mathlib.Core.Bool.{Bool, true, false}
+use mathlib.Core.List.{List}
+use Prim.Native.Nat.{ℕ, _/_, _%_, _^_, _<_, _≤_}
+use native.Mathlib.Omega.{arith}
+use native.Mathlib.Nat.{div-eq-of-lt}
+use lib.Pow.{pow-pos}
+use lib.Bits.{bitAnd, bitOr, bitXor, and-mask}
+use lib.Dec.{eqb}
+use lib.ListN.{length, getD, set}
+use Rattle.std.proofs.shelf.Lists.{getD-set-same, getD-set-other, getD-past}
+use Rattle.std.proofs.shelf.Tests.{eq-eqb, ne-eqb, cases-eq}
+use Rattle.domain.specs.Masks.{In}
+use Rattle.domain.specs.Tables.{holdsBit}
+use Rattle.domain.proofs.Bits.{in-or-not, in-left, in-right, in-either, in-single, single-in, in-lacking, lacking-in}
+
+-- digits agree where one is 1 exactly when the other is
+pub same-digit : {p a q b : ℕ} → (In p a → In q b) → (In q b → In p a) → a / 2 ^ p % 2 ≡ b / 2 ^ q % 2
+same-digit {p} {a} {q} {b} to from = go (in-or-not p a) (in-or-not q b)
+  where
+    go : In p a ⊎ (In p a → ⊥) → In q b ⊎ (In q b → ⊥) → a / 2 ^ p % 2 ≡ b / 2 ^ q % 2
+    go (inl i) (inl j) = omega (arith, i .digit, j .digit)
+    go (inl i) (inr n) = absurd (n (to i))
+    go (inr n) (inl j) = absurd (n (from j))
+    go (inr n) (inr m) =
+        let e : a / 2 ^ p % 2 ≢ 1 = λ d. n (record { digit = d }) in
+        let f : b / 2 ^ q % 2 ≢ 1 = λ d. m (record { digit = d }) in
+        omega (arith, e, f)
+
+pub set-at : (b p : ℕ) → eqb (bitOr b (2 ^ p) / 2 ^ p % 2) 1 ≡ true
+set-at b p = eq-eqb _ 1 (in-right b (in-single p) .digit)
+
+pub set-other : (b p k : ℕ) → k ≢ p → bitOr b (2 ^ p) / 2 ^ k % 2 ≡ b / 2 ^ k % 2
+set-other b p k ne = same-digit (λ i. go (in-either b (2 ^ p) i)) (λ i. in-left (2 ^ p) i)
+  where
+    go : In k b ⊎ In k (2 ^ p) → In k b
+    go (inl i) = i
+    go (inr i) = absurd (ne (single-in i))
+
+pub cleared-at : (b p : ℕ) → eqb (bitXor b (bitAnd b (2 ^ p)) / 2 ^ p % 2) 1 ≡ false
+cleared-at b p = ne-eqb _ 1 (λ e. lacking-in b (2 ^ p) (record { digit = e }) .1 (in-single p))
+
+pub cleared-other : (b p k : ℕ) → k ≢ p → bitXor b (bitAnd b (2 ^ p)) / 2 ^ k % 2 ≡ b / 2 ^ k % 2
+cleared-other b p k ne = same-digit (λ i. lacking-in b (2 ^ p) i .0) (λ i. in-lacking i (λ j. ne (single-in j)))
+
+-- a byte's lowest digit, as `& 1` gives it
+pub low-digit : (m : ℕ) → eqb (bitAnd m 1) 1 ≡ eqb (m % 2) 1
+low-digit m = ap (λ d. eqb d 1) (and-mask m 1)
+
+-- past its end a table holds nothing
+pub past-bit : (t : List ℕ) (g : ℕ) → length t ≤ g / 8 → holdsBit t g ≡ false
+unfolding holdsBit
+past-bit t g h = rw (getD-past t (g / 8) 0 h) (ne-eqb _ 1 (omega (arith, div-eq-of-lt {n = 0} (pow-pos (g % 8)))))
+
+-- one byte written: the bit that it was written for, and all others
+pub put-at : (t : List ℕ) (g v : ℕ) (on : Bool) → g / 8 < length t → eqb (v / 2 ^ (g % 8) % 2) 1 ≡ on → holdsBit (set t (g / 8) v) g ≡ on
+unfolding holdsBit
+put-at t g v on h e = rw (getD-set-same t (g / 8) v 0 h) e
+
+pub put-others : (t : List ℕ) (g v : ℕ) → g / 8 < length t → ((k : ℕ) → k ≢ g % 8 → v / 2 ^ k % 2 ≡ getD t (g / 8) 0 / 2 ^ k % 2) → (h : ℕ) → h ≢ g → holdsBit (set t (g / 8) v) h ≡ holdsBit t h
+unfolding holdsBit
+put-others t g v inside same h ne = go (cases-eq (h / 8) (g / 8))
+  where
+    go : (h / 8 ≡ g / 8) ⊎ (h / 8 ≡ g / 8 → ⊥) → eqb (getD (set t (g / 8) v) (h / 8) 0 / 2 ^ (h % 8) % 2) 1 ≡ eqb (getD t (h / 8) 0 / 2 ^ (h % 8) % 2) 1
+    go (inl e) = rw (e, getD-set-same t (g / 8) v 0 inside) (ap (λ d. eqb d 1) (same (h % 8) (omega arith)))
+    go (inr n) = rw (getD-set-other t (g / 8) (h / 8) v 0 n)
