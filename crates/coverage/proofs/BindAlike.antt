@@ -9,7 +9,7 @@ use Rattle.domain.specs.Binding.{FreeTerm, Once, LinearTerm, FreePosition, Line
 use Rattle.domain.specs.declared.case.Case.{Case}
 use Rattle.domain.specs.declared.case.Case.the-variants.{Free, BothLinear, PositionLinear, TermLinear, Neither}
 use Rattle.domain.specs.declared.term.Term.{Term}
-use Rattle.coverage.proofs.Bits.{within-eq}
+use Rattle.domain.proofs.Bits.{same-mask}
 use Rattle.coverage.proofs.Cover.{covers-own, same-turned, same-trans, same-groups, alike-turned}
 use Rattle.coverage.proofs.Places.{share-kept, ground-kept}
 use Rattle.coverage.proofs.BindCover.{bind-same}
@@ -150,6 +150,6 @@ bind-alike a u v =
     let b = alike-turned a in
     record {
       positions = bound-positions a u v;
-      free = within-eq (bound-free a u v) (bound-free b v u);
-      linear = within-eq (bound-linear a u v) (bound-linear b v u);
+      free = same-mask (bound-free a u v) (bound-free b v u);
+      linear = same-mask (bound-linear a u v) (bound-linear b v u);
       cover = bound-cover a u v }

@@ -10,7 +10,8 @@ use Rattle.domain.specs.Binding.{Made, NewGroup, rest, made}
 use Rattle.domain.specs.declared.case.Case.{Case}
 use Rattle.domain.specs.declared.case.Case.the-variants.{Free, BothLinear, PositionLinear, TermLinear, Neither}
 use Rattle.coverage.specs.BindLaws.{Apart, WithTerm, TermCovered, UnitesX, UnitesT, Linked, before, across, back, by-x, by-t, BindCovers, untouched, met}
-use Rattle.coverage.proofs.Bits.{dec-in, dec-meets, in-or, in-or-left, in-or-right, within-or, within-or-left, within-or-right, within-refl, within-trans}
+use Rattle.domain.proofs.Bits.{in-either, in-left, in-right, union-within, within-left, within-right, within-self, within-trans}
+use Rattle.coverage.proofs.Decided.{dec-in, dec-meets}
 use Rattle.coverage.proofs.Cover.{covers-own, covers-wider, covers-turned}
 
 -- ---- wider windows
@@ -39,19 +40,19 @@ pub record UnionOf (A : ℕ → Type 0) (u : ℕ) : Type 0 where
 
 one-union : {A : ℕ → Type 0} {u : ℕ} → A u → UnionOf A u
 one-union {u = u} a =
-    record { some = u; some-told = a; some-inside = within-refl; each = λ p i. covers-own a i i }
+    record { some = u; some-told = a; some-inside = within-self u; each = λ p i. covers-own a i i }
 
 pub two-union : {A : ℕ → Type 0} (g h : ℕ) → UnionOf A g → UnionOf A h → UnionOf A (bitOr g h)
 two-union g h a b =
     record {
       some = a .some;
       some-told = a .some-told;
-      some-inside = within-trans (a .some-inside) (within-or-left g h);
+      some-inside = within-trans (a .some-inside) (within-left g h);
       each =
         λ p i.
-          elim (in-or g h i)
-          [ inl j ↦ covers-wider (within-or-left g h) (a .each p j)
-          | inr j ↦ covers-wider (within-or-right g h) (b .each p j)
+          elim (in-either g h i)
+          [ inl j ↦ covers-wider (within-left g h) (a .each p j)
+          | inr j ↦ covers-wider (within-right g h) (b .each p j)
           ] }
 
 pub closure-union : {A : ℕ → Type 0} {u : ℕ} → Closure A u → UnionOf A u
@@ -137,40 +138,40 @@ t-closed y k =
 -- a group with shared groups: the shared ones serve as x-groups and as t-groups
 x-joined : {G : ℕ → Type 0} {x v : ℕ} {c : Case} (a s : ℕ) → XGroup G x a → Closure (Shared G x v) s → XSide G x v c (bitOr a s)
 x-joined {G} {x} {v} {c} a s xa cs =
-    record { union = two-union a s (one-union xa) sx; pair = λ p q i j. by (in-or a s i) (in-or a s j) }
+    record { union = two-union a s (one-union xa) sx; pair = λ p q i j. by (in-either a s i) (in-either a s j) }
   where
     sx : UnionOf (XGroup G x) s
     sx = union-more shared-x (closure-union cs)
     st : UnionOf (TGroup G v) s
     st = union-more shared-t (closure-union cs)
     ax : {p : ℕ} → In p a → Covers G (bitOr a s) x p
-    ax i = covers-wider (within-or-left a s) (x-each (one-union xa) i)
+    ax i = covers-wider (within-left a s) (x-each (one-union xa) i)
     sxp : {p : ℕ} → In p s → Covers G (bitOr a s) x p
-    sxp i = covers-wider (within-or-right a s) (x-each sx i)
+    sxp i = covers-wider (within-right a s) (x-each sx i)
     stp : {p : ℕ} → In p s → WithTerm (Covers G) v (bitOr a s) p
-    stp i = term-wider (within-or-right a s) (t-each st i)
+    stp i = term-wider (within-right a s) (t-each st i)
     by : {p q : ℕ} → In p a ⊎ In p s → In q a ⊎ In q s → Linked (Covers G) x v c (bitOr a s) p q
-    by (inl i) (inl j) = before (covers-wider (within-or-left a s) (covers-own (xa .group) i j))
+    by (inl i) (inl j) = before (covers-wider (within-left a s) (covers-own (xa .group) i j))
     by (inl i) (inr j) = across (ax i) (stp j)
     by (inr i) (inl j) = back (stp i) (ax j)
     by (inr i) (inr j) = across (sxp i) (stp j)
 
 t-joined : {G : ℕ → Type 0} {x v : ℕ} {c : Case} (b s : ℕ) → TGroup G v b → Closure (Shared G x v) s → TSide G x v c (bitOr b s)
 t-joined {G} {x} {v} {c} b s tb cs =
-    record { union = two-union b s (one-union tb) st; pair = λ p q i j. by (in-or b s i) (in-or b s j) }
+    record { union = two-union b s (one-union tb) st; pair = λ p q i j. by (in-either b s i) (in-either b s j) }
   where
     sx : UnionOf (XGroup G x) s
     sx = union-more shared-x (closure-union cs)
     st : UnionOf (TGroup G v) s
     st = union-more shared-t (closure-union cs)
     bt : {p : ℕ} → In p b → WithTerm (Covers G) v (bitOr b s) p
-    bt i = term-wider (within-or-left b s) (t-each (one-union tb) i)
+    bt i = term-wider (within-left b s) (t-each (one-union tb) i)
     sxp : {p : ℕ} → In p s → Covers G (bitOr b s) x p
-    sxp i = covers-wider (within-or-right b s) (x-each sx i)
+    sxp i = covers-wider (within-right b s) (x-each sx i)
     stp : {p : ℕ} → In p s → WithTerm (Covers G) v (bitOr b s) p
-    stp i = term-wider (within-or-right b s) (t-each st i)
+    stp i = term-wider (within-right b s) (t-each st i)
     by : {p q : ℕ} → In p b ⊎ In p s → In q b ⊎ In q s → Linked (Covers G) x v c (bitOr b s) p q
-    by (inl i) (inl j) = before (covers-wider (within-or-left b s) (covers-own (tb .group) i j))
+    by (inl i) (inl j) = before (covers-wider (within-left b s) (covers-own (tb .group) i j))
     by (inl i) (inr j) = back (bt i) (sxp j)
     by (inr i) (inl j) = across (sxp i) (bt j)
     by (inr i) (inr j) = across (sxp i) (stp j)
@@ -214,23 +215,23 @@ pub made-holds : (G : ℕ → Type 0) (x v : ℕ) (c : Case) (u : ℕ) → Made 
 made-holds G x v c u m =
     let k = made-sides {G = G} {v = v} c u m in
     let n = k .x-side .union in
-    rw (← k .whole) (in-or-left (k .right) (n .some-inside .each x (n .some-told .holds)))
+    rw (← k .whole) (in-left (k .right) (n .some-inside .each x (n .some-told .holds)))
 
 -- ---- from the new groups to the closed form
 
 both-linked : {G : ℕ → Type 0} {x v : ℕ} {c : Case} (l r : ℕ) {p q : ℕ} → XSide G x v c l → TSide G x v c r → In p l ⊎ In p r → In q l ⊎ In q r → Linked (Covers G) x v c (bitOr l r) p q
-both-linked l r {p} {q} s t (inl i) (inl j) = linked-wider (within-or-left l r) (s .pair p q i j)
+both-linked l r {p} {q} s t (inl i) (inl j) = linked-wider (within-left l r) (s .pair p q i j)
 both-linked l r s t (inl i) (inr j) =
-    across (covers-wider (within-or-left l r) (x-each (s .union) i)) (term-wider (within-or-right l r) (t-each (t .union) j))
+    across (covers-wider (within-left l r) (x-each (s .union) i)) (term-wider (within-right l r) (t-each (t .union) j))
 both-linked l r s t (inr i) (inl j) =
-    back (term-wider (within-or-right l r) (t-each (t .union) i)) (covers-wider (within-or-left l r) (x-each (s .union) j))
-both-linked l r {p} {q} s t (inr i) (inr j) = linked-wider (within-or-right l r) (t .pair p q i j)
+    back (term-wider (within-right l r) (t-each (t .union) i)) (covers-wider (within-left l r) (x-each (s .union) j))
+both-linked l r {p} {q} s t (inr i) (inr j) = linked-wider (within-right l r) (t .pair p q i j)
 
 sides-cover : {G : ℕ → Type 0} {x v : ℕ} {c : Case} {w p q : ℕ} (l r : ℕ) → XSide G x v c l → TSide G x v c r → In p (bitOr l r) → In q (bitOr l r) → Within (bitOr l r) w → BindCovers (Covers G) x v c w p q
 sides-cover l r s t i j h =
-    met (covers-wider h (covers-wider (within-or-left l r) (x-some (s .union))))
-    (covered-wider h (covered-wider (within-or-right l r) (t-some (t .union))))
-    (linked-wider h (both-linked l r s t (in-or l r i) (in-or l r j)))
+    met (covers-wider h (covers-wider (within-left l r) (x-some (s .union))))
+    (covered-wider h (covered-wider (within-right l r) (t-some (t .union))))
+    (linked-wider h (both-linked l r s t (in-either l r i) (in-either l r j)))
 
 new-cover : {G : ℕ → Type 0} {x v : ℕ} {c : Case} {w p q : ℕ} (u : ℕ) → NewGroup G x v c u → In p u → In q u → Within u w → BindCovers (Covers G) x v c w p q
 new-cover u (rest k) i j h =
@@ -278,11 +279,11 @@ t-made {a = a} {b = b} {b′ = b′} Neither y s t t′ = two a (bitOr b b′) (
 -- an x-group and a t-group cover together what one of them holds
 pub pair-covers : {G : ℕ → Type 0} {x v a b w p q : ℕ} (c : Case) → XGroup G x a → TGroup G v b → Within a w → Within b w → In p a ⊎ In p b → In q a ⊎ In q b → Covers (NewGroup G x v c) w p q
 pair-covers {a = a} {b = b} c s t h k i j =
-    record { group = bitOr a b; told = made (pair-made c s t); left = either i; right = either j; inside = within-or h k }
+    record { group = bitOr a b; told = made (pair-made c s t); left = either i; right = either j; inside = union-within h k }
   where
     either : {p : ℕ} → In p a ⊎ In p b → In p (bitOr a b)
-    either (inl i) = in-or-left b i
-    either (inr i) = in-or-right a i
+    either (inl i) = in-left b i
+    either (inr i) = in-right a i
 
 module _ {G : ℕ → Type 0} {x v w : ℕ} (c : Case) (at-x : Covers G w x x) (at-t : TermCovered (Covers G) v w) where
   linked-covers : {p q : ℕ} → Linked (Covers G) x v c w p q → Covers (NewGroup G x v c) w p q
@@ -318,18 +319,18 @@ module _ {G : ℕ → Type 0} {x v w : ℕ} (c : Case) (at-x : Covers G w x x) (
       record {
         group = bitOr (bitOr (k .group) (l .group)) (b .group);
         told = made (x-made c y (x-group k) (x-group l) (t-group b (at-t .held)));
-        left = in-or-left (b .group) (in-or-left (l .group) (k .right));
-        right = in-or-left (b .group) (in-or-right (k .group) (l .right));
-        inside = within-or (within-or (k .inside) (l .inside)) (b .inside) }
+        left = in-left (b .group) (in-left (l .group) (k .right));
+        right = in-left (b .group) (in-right (k .group) (l .right));
+        inside = union-within (union-within (k .inside) (l .inside)) (b .inside) }
   linked-covers (by-t y s t) =
       let k = s .covered in
       let l = t .covered in
       record {
         group = bitOr (at-x .group) (bitOr (k .group) (l .group));
         told = made (t-made c y (x-group at-x) (t-group k (s .held)) (t-group l (t .held)));
-        left = in-or-right (at-x .group) (in-or-left (l .group) (k .right));
-        right = in-or-right (at-x .group) (in-or-right (k .group) (l .right));
-        inside = within-or (at-x .inside) (within-or (k .inside) (l .inside)) }
+        left = in-right (at-x .group) (in-left (l .group) (k .right));
+        right = in-right (at-x .group) (in-right (k .group) (l .right));
+        inside = union-within (at-x .inside) (union-within (k .inside) (l .inside)) }
 
 rest-covers : {G : ℕ → Type 0} {x v : ℕ} {c : Case} {w p q : ℕ} → Apart (Covers G) x v w p q → Covers (NewGroup G x v c) w p q
 rest-covers a =

@@ -8,7 +8,8 @@ use native.Mathlib.Omega.{arith}
 use Rattle.domain.specs.Masks.{In, Within}
 use Rattle.domain.specs.Told.{Told, Group}
 use Rattle.domain.specs.Coverage.{Covers, SameCover, Alike, Core, CoreFits}
-use Rattle.coverage.proofs.Bits.{dec-in, dec-within, within-le, within-eq, within-refl, within-trans}
+use Rattle.domain.proofs.Bits.{within-le, same-mask, within-trans}
+use Rattle.coverage.proofs.Decided.{dec-in, dec-within}
 use Rattle.coverage.proofs.Cover.{covers-own, covers-wider, same-turned, same-trans, same-groups, alike-turned}
 
 -- ---- the least number of which a test holds
@@ -95,7 +96,7 @@ module _ {G H : ℕ → Type 0} (s : SameCover G H) where
   back {g} c h u k =
       let b = s .from h (c .p) (c .q) k in
       elim (ℕ-discrete (b .group) g)
-      [ yes e ↦ within-eq (subst (λ m. Within m h) e (b .inside)) u
+      [ yes e ↦ same-mask (subst (λ m. Within m h) e (b .inside)) u
       | no ne ↦ absurd (c .uncovered (b .group) (b .told) (within-trans (b .inside) u) ne (b .left) (b .right))
       ]
 

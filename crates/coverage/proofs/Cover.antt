@@ -4,11 +4,11 @@ use Prim.Native.Nat.{ℕ}
 use Rattle.domain.specs.Masks.{In, Within}
 use Rattle.domain.specs.Told.{Told, Group, Share, Ground}
 use Rattle.domain.specs.Coverage.{Covers, SameCover, Alike}
-use Rattle.coverage.proofs.Bits.{within-refl, within-trans}
+use Rattle.domain.proofs.Bits.{within-self, within-trans}
 
 -- a pair that a group covers in itself
 pub covers-own : {G : ℕ → Type 0} {g p q : ℕ} → G g → In p g → In q g → Covers G g p q
-covers-own {g = g} t i j = record { group = g; told = t; left = i; right = j; inside = within-refl }
+covers-own {g = g} t i j = record { group = g; told = t; left = i; right = j; inside = within-self g }
 
 pub covers-wider : {G : ℕ → Type 0} {w u p q : ℕ} → Within w u → Covers G w p q → Covers G u p q
 covers-wider h c =

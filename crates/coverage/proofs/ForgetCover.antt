@@ -2,14 +2,19 @@
 use mathlib.Core.Path.{_≡_, refl, sym, _∙_, subst}
 use mathlib.Core.Logic.{_⊎_, inl, inr}
 use Prim.Native.Nat.{ℕ, _^_}
-use lib.Bits.{bitOr}
+use lib.Bits.{bitOr, bitAnd, bitXor}
 use Rattle.domain.specs.Masks.{In, Within}
 use Rattle.domain.specs.Told.{Told, Group}
 use Rattle.domain.specs.Coverage.{Covers, SameCover, Alike}
 use Rattle.domain.specs.Forgetting.{Stripped, Renewed, Forgotten}
 use Rattle.coverage.specs.ForgetLaws.{ForgetCovers, others, itself}
-use Rattle.coverage.proofs.Bits.{dec-in, in-or, in-or-left, in-or-right, in-single, single-only, in-pos, minus, in-minus, in-minus-left, in-minus-right, within-eq}
+use Rattle.domain.proofs.Bits.{in-either, in-left, in-right, in-single, single-in, in-pos, in-lacking, lacking-in, same-mask}
+use Rattle.coverage.proofs.Decided.{dec-in}
 use Rattle.coverage.proofs.Cover.{alike-turned}
+
+-- the positions of a that are not in b
+abbrev pub minus : ℕ → ℕ → ℕ
+minus a b = bitXor a (bitAnd a b)
 
 -- what a group leaves without m, where it keeps a position
 pub stripped : {d : Told} {m g p : ℕ} → Group d g → In p g → (In p m → ⊥) → Stripped d m (minus g m)
@@ -17,9 +22,9 @@ stripped {m = m} {g = g} t i n =
     record {
       group = g;
       told = t;
-      keeps = λ q j k. in-minus j k;
-      only = λ q j. (in-minus-left g m j, in-minus-right g m j);
-      not-empty = in-pos (in-minus i n) }
+      keeps = λ q j k. in-lacking j k;
+      only = λ q j. lacking-in g m j;
+      not-empty = in-pos (in-lacking i n) }
 
 pub renewed : {m p : ℕ} → In p m → Renewed m (2 ^ p)
 renewed {p = p} i = record { place = p; forgotten = i; only = refl }
@@ -36,12 +41,12 @@ stripped-cover {m = m} {w = w} {p = p} {q = q} s i j h =
         record {
           each =
             λ r k.
-              elim (dec-in r m) [ yes y ↦ in-or-right w y | no n ↦ in-or-left m (h .each r (s .keeps r k n)) ] } })
+              elim (dec-in r m) [ yes y ↦ in-right w y | no n ↦ in-left m (h .each r (s .keeps r k n)) ] } })
 
 renewed-cover : {C : ℕ → ℕ → ℕ → Type 0} {m w p q g : ℕ} → Renewed m g → In p g → In q g → Within g w → ForgetCovers C m w p q
 renewed-cover {m = m} {w = w} {p = p} {q = q} r i j h =
-    let ep : p ≡ r .place = single-only (r .place) (rw (← r .only) i) in
-    let eq : q ≡ r .place = single-only (r .place) (rw (← r .only) j) in
+    let ep : p ≡ r .place = single-in (rw (← r .only) i) in
+    let eq : q ≡ r .place = single-in (rw (← r .only) j) in
     itself (rw ep (r .forgotten)) (ep ∙ sym eq) (h .each p i)
 
 module _ {d e : Told} {m : ℕ} (f : Forgotten d m e) where
@@ -56,21 +61,21 @@ module _ {d e : Told} {m : ℕ} (f : Forgotten d m e) where
       record {
         group = minus g m;
         told = f .groups-made (minus g m) (inl (stripped (k .told) (k .left) i));
-        left = in-minus (k .left) i;
-        right = in-minus (k .right) j;
+        left = in-lacking (k .left) i;
+        right = in-lacking (k .right) j;
         inside =
           record {
             each =
               λ r h.
-                elim (in-or w m (k .inside .each r (in-minus-left g m h)))
-                [ inl y ↦ y | inr y ↦ absurd (in-minus-right g m h y) ] } }
+                elim (in-either w m (k .inside .each r (lacking-in g m h .0)))
+                [ inl y ↦ y | inr y ↦ absurd (lacking-in g m h .1 y) ] } }
   forget-cover-from {w} {p} {q} (itself i e h) =
       record {
         group = 2 ^ p;
         told = f .groups-made (2 ^ p) (inr (renewed i));
         left = in-single p;
         right = subst (λ r. In r (2 ^ p)) e (in-single p);
-        inside = record { each = λ r j. rw (single-only p j) h } }
+        inside = record { each = λ r j. rw (single-in j) h } }
 
 forget-more : {C D : ℕ → ℕ → ℕ → Type 0} {m w p q : ℕ} → ((w p q : ℕ) → C w p q → D w p q) → ForgetCovers C m w p q → ForgetCovers D m w p q
 forget-more f (others i j k) = others i j (f _ _ _ k)
@@ -99,6 +104,6 @@ forget-alike a u v =
     let b = alike-turned a in
     record {
       positions = u .positions ∙ (a .positions ∙ sym (v .positions));
-      free = within-eq (forgotten-free a u v) (forgotten-free b v u);
-      linear = within-eq (forgotten-linear a u v) (forgotten-linear b v u);
+      free = same-mask (forgotten-free a u v) (forgotten-free b v u);
+      linear = same-mask (forgotten-linear a u v) (forgotten-linear b v u);
       cover = record { to = forgotten-cover a u v; from = forgotten-cover b v u } }

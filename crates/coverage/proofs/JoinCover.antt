@@ -7,7 +7,7 @@ use Rattle.domain.specs.Masks.{In, Within}
 use Rattle.domain.specs.Told.{Told, Group}
 use Rattle.domain.specs.Coverage.{Covers, SameCover, Listed, Alike}
 use Rattle.domain.specs.Joining.{Joined}
-use Rattle.coverage.proofs.Bits.{within-eq}
+use Rattle.domain.proofs.Bits.{same-mask}
 use Rattle.coverage.proofs.Cover.{covers-more, alike-turned}
 
 -- the union of two sets covers what one of them covers
@@ -43,6 +43,6 @@ join-alike a u v =
     let b = alike-turned a in
     record {
       positions = u .positions ∙ (a .positions ∙ sym (v .positions));
-      free = within-eq (joined-free a u v) (joined-free b v u);
-      linear = within-eq (joined-linear a u v) (joined-linear b v u);
+      free = same-mask (joined-free a u v) (joined-free b v u);
+      linear = same-mask (joined-linear a u v) (joined-linear b v u);
       cover = record { to = joined-cover a u v; from = joined-cover b v u } }

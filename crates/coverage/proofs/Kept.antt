@@ -17,10 +17,11 @@ use Rattle.domain.specs.declared.case.Case.{Case}
 use Rattle.domain.specs.declared.term.Term.{Term}
 use Rattle.coverage.specs.BindLaws.{WithTerm, Linked, before, across, back, by-x, by-t, BindCovers, untouched, met}
 use Rattle.coverage.specs.Rules.{LawfulJoin}
-use Rattle.coverage.proofs.Bits.{dec-in, dec-meets, in-lt, in-single, single-only, in-pos, below-pow, minus, in-minus, within-or-left, within-or-right}
+use Rattle.domain.proofs.Bits.{in-below, in-single, in-pos, below-lt, in-lacking, within-left, within-right}
+use Rattle.coverage.proofs.Decided.{dec-in, dec-meets}
 use Rattle.coverage.proofs.Cover.{covers-own}
 use Rattle.coverage.proofs.BindCover.{bind-cover-to, pair-covers, made-holds}
-use Rattle.coverage.proofs.ForgetCover.{stripped, renewed}
+use Rattle.coverage.proofs.ForgetCover.{stripped, renewed, minus}
 
 -- ---- one position
 
@@ -38,13 +39,13 @@ held-right k = record { group = k .group; told = k .told; holds = k .right }
 
 module _ {d : Told} (l : Lawful d) where
   pub linear-lt : {p : ℕ} → In p (d .linear) → p < d .n
-  linear-lt i = in-lt (d .n) (l .linear-in-range) i
+  linear-lt i = in-below (d .n) i (l .linear-in-range)
 
   pub free-lt : {p : ℕ} → In p (d .free) → p < d .n
   free-lt {p} i = linear-lt (l .free-is-linear p i)
 
   pub held-lt : {p : ℕ} → Held (Group d) p → p < d .n
-  held-lt h = in-lt (d .n) (l .in-range (h .group) (h .told) .1) (h .holds)
+  held-lt h = in-below (d .n) (h .holds) (l .in-range (h .group) (h .told) .1)
 
   -- a free position is not one that no group holds
   pub free-held : {p : ℕ} → In p (d .free) → (Held (Group d) p → ⊥) → ⊥
@@ -63,7 +64,7 @@ new-lawful {n} {e} some few k =
         λ g t.
           let s = k .groups-only g t in
           (rw (s .only) (pow-pos (s .place)), rw (s .only, k .positions) (pow-lt (s .position)));
-      linear-in-range = rw (k .positions) (below-pow n (e .linear) (k .linear-only));
+      linear-in-range = rw (k .positions) (below-lt (e .linear) n (k .linear-only));
       free-is-linear = λ p i. k .linear-made p (k .free-only p i);
       ground-is-linear = λ p g. k .linear-made p (rw (k .positions) at (g .position));
       free-is-not-ground =
@@ -93,7 +94,7 @@ module _ {d e : Told} {x : ℕ} {t : Term} (l : Lawful d) (b : Bound d x t e) wh
   bound-range : (g : ℕ) → Group e g → (0 < g) × (g < 2 ^ e .n)
   bound-range g h =
       let k = b .groups-only g h in
-      (new-place k, rw (b .positions) (below-pow (d .n) g (λ p i. held-lt l (bind-held (bind-cover-to (covers-own k i i))))))
+      (new-place k, rw (b .positions) (below-lt g (d .n) (λ p i. held-lt l (bind-held (bind-cover-to (covers-own k i i))))))
 
   linear-place : (p : ℕ) → In p (e .linear) → p < d .n
   linear-place p i =
@@ -105,7 +106,7 @@ module _ {d e : Told} {x : ℕ} {t : Term} (l : Lawful d) (b : Bound d x t e) wh
   -- an x-group and a t-group give a group of e around each of their positions
   united : {p : ℕ} {a g : ℕ} → XGroup (Group d) x a → TGroup (Group d) (t .held) g → In p a ⊎ In p g → Held (Group e) p
   united {p} {a} {g} xa tg i =
-      let k = pair-covers (b .case) xa tg (within-or-left a g) (within-or-right a g) i i in
+      let k = pair-covers (b .case) xa tg (within-left a g) (within-right a g) i i in
       record { group = k .group; told = b .groups-made (k .group) (k .told); holds = k .left }
 
   -- a position that stays free keeps a group, if it had one
@@ -150,7 +151,7 @@ module _ {d e : Told} {x : ℕ} {t : Term} (l : Lawful d) (b : Bound d x t e) wh
         some-positions = rw (b .positions) (l .some-positions);
         few-positions = rw (b .positions) (l .few-positions);
         in-range = bound-range;
-        linear-in-range = rw (b .positions) (below-pow (d .n) (e .linear) linear-place);
+        linear-in-range = rw (b .positions) (below-lt (e .linear) (d .n) linear-place);
         free-is-linear = λ p i. b .linear-added p (inl i);
         ground-is-linear = λ p g. b .linear-added p (inr g);
         free-is-not-ground =
@@ -168,7 +169,7 @@ join-lawful {d} {e} {free} {linear} {hs} l k j =
       in-range =
         λ g t.
           rw (j .positions) (elim (j .groups-only g t) [ inl h ↦ l .in-range g h | inr h ↦ k .in-range g h ]);
-      linear-in-range = rw (j .positions) (below-pow (d .n) (e .linear) (λ p i. linear-lt l (j .linear-only p i .0)));
+      linear-in-range = rw (j .positions) (below-lt (e .linear) (d .n) (λ p i. linear-lt l (j .linear-only p i .0)));
       free-is-linear =
         λ p i.
           let h = j .free-only p i in
@@ -195,8 +196,8 @@ forget-lawful {d} {e} {m} l small f =
       in-range = λ g t. rw (f .positions) (elim (f .groups-only g t) [ inl s ↦ left-range g s | inr r ↦ new-range g r ]);
       linear-in-range =
         rw (f .positions)
-        (below-pow (d .n) (e .linear)
-        (λ p i. elim (f .linear-only p i) [ inl h ↦ linear-lt l h | inr h ↦ in-lt (d .n) small h ]));
+        (below-lt (e .linear) (d .n)
+        (λ p i. elim (f .linear-only p i) [ inl h ↦ linear-lt l h | inr h ↦ in-below (d .n) h small ]));
       free-is-linear =
         λ p i.
           f .linear-made p (elim (f .free-only p i) [ inl h ↦ inl (l .free-is-linear p h) | inr h ↦ inr h ]);
@@ -208,10 +209,10 @@ forget-lawful {d} {e} {m} l small f =
   where
     left-range : (g : ℕ) → Stripped d m g → (0 < g) × (g < 2 ^ d .n)
     left-range g s =
-        (s .not-empty, below-pow (d .n) g (λ p i. in-lt (d .n) (l .in-range (s .group) (s .told) .1) (s .only p i .0)))
+        (s .not-empty, below-lt g (d .n) (λ p i. in-below (d .n) (s .only p i .0) (l .in-range (s .group) (s .told) .1)))
     new-range : (g : ℕ) → Renewed m g → (0 < g) × (g < 2 ^ d .n)
     new-range g r =
-        (rw (r .only) (pow-pos (r .place)), rw (r .only) (pow-lt (in-lt (d .n) small (r .forgotten))))
+        (rw (r .only) (pow-pos (r .place)), rw (r .only) (pow-lt (in-below (d .n) (r .forgotten) small)))
     not-forgotten : {p : ℕ} → Ground e p → In p m → ⊥
     not-forgotten {p} g i = g .none (2 ^ p) (f .groups-made (2 ^ p) (inr (renewed i))) (in-single p)
     was : {p : ℕ} → Ground e p → Ground d p
@@ -222,5 +223,5 @@ forget-lawful {d} {e} {m} l small f =
             λ h t i.
               elim (dec-in p m)
               [ yes y ↦ not-forgotten g y
-              | no n ↦ g .none (minus h m) (f .groups-made (minus h m) (inl (stripped t i n))) (in-minus i n)
+              | no n ↦ g .none (minus h m) (f .groups-made (minus h m) (inl (stripped t i n))) (in-lacking i n)
               ] }

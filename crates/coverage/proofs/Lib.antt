@@ -1,4 +1,4 @@
-pub mod Bits
+pub mod Decided
 pub mod Cover
 pub mod CoreLeast
 pub mod BindCover
