@@ -7,3 +7,6 @@ pub mod BindAlike
 pub mod JoinCover
 pub mod ForgetCover
 pub mod Kept
+pub mod Submasks
+pub mod Verdicts
+pub mod Ranges

@@ -3,3 +3,4 @@ pub mod BindLaws
 pub mod JoinLaws
 pub mod ForgetLaws
 pub mod Rules
+pub mod Walks

@@ -4,3 +4,4 @@ pub mod forgetting;
 pub mod joining;
 pub mod keeping;
 pub mod least;
+pub mod window;
