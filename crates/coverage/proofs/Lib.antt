@@ -10,3 +10,4 @@ pub mod Kept
 pub mod Submasks
 pub mod Verdicts
 pub mod Ranges
+pub mod Pairs
