@@ -1,2 +1,10 @@
 pub mod Bits
 pub mod Tables
+pub mod Laws
+pub mod Deciding
+pub mod Reaching
+pub mod Asking
+pub mod Opening
+pub mod Walk
+pub mod Hull
+pub mod Made

@@ -1,6 +1,9 @@
 // Descriptions of record positions: which sets of positions may hold one open place in common,
 // and how binding a position to a term changes that.
 pub mod case;
+pub mod description;
+mod mask;
+mod reach;
 pub mod refusal;
 pub mod table;
 pub mod term;

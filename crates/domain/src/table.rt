@@ -1,6 +1,6 @@
 // The bit table of groups: the mask g is bit g % 8 of byte g / 8.
 ghost use Prim.Native.Nat.{ℕ, _/_, _%_, _^_, _<_, _≤_};
-ghost use Rattle.domain.specs.Tables.{holdsBit};
+ghost use Rattle.domain.specs.Tables.{holdsBit, inRange};
 ghost use lib.Dec.{eqb};
 ghost use lib.ListN.{length};
 ghost use mathlib.Core.Logic.{_≢_};
@@ -15,6 +15,14 @@ pub fn holds(table: &[u8], g: u16) -> bool
         return false;
     }
     (table[place] >> (g % 8)) & 1 == 1
+}
+
+// Whether g is one of the masks that a description of so many positions can have as a group.
+pub(crate) fn in_range(positions: u8, g: u16) -> bool
+    requires { ⌜ positions < 16 ⌝ }
+    ensures { λ r. ⌜ r ≡ inRange positions g ⌝ }
+{
+    0 < g && g < 1 << positions
 }
 
 // Sets the bit of the mask g to `on`; where the table ends before it, nothing is written.
