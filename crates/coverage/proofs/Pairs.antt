@@ -9,7 +9,8 @@ use Rattle.domain.specs.Masks.{In, Within}
 use Rattle.domain.specs.Coverage.{Core}
 use Rattle.domain.proofs.Bits.{within-self, within-le, in-below, none-in}
 use Rattle.coverage.specs.Walks.{Holding, CoversTo, Inside, OpenPair}
-use Rattle.coverage.proofs.Submasks.{next-below, next-lt}
+use Rattle.domain.proofs.Walk.{next-subset}
+use Rattle.coverage.proofs.Submasks.{next-lt}
 
 -- ---- strictly inside
 
@@ -27,7 +28,7 @@ to-inside g i =
       group = i .group;
       holding = i .holding;
       inside = i .inside;
-      most = next-below g (i .group) g (i .inside) (within-self g) (omega (arith, within-le (i .inside), i .smaller)) }
+      most = next-subset (within-self g) (i .inside) (omega (arith, within-le (i .inside), i .smaller)) }
 
 pub empty-inside : {G : ℕ → Type 0} {g p q : ℕ} → g ≡ 0 → Inside G g p q → ⊥
 empty-inside {g = g} {p = p} e i = none-in {p = p} (subst (λ m. In p m) e (i .inside .each p (i .holding .left)))

@@ -1,7 +1,7 @@
 use native.Mathlib.Omega.{arith}
 use Prim.Native.Nat.{_<_}
 use Rattle.coverage.proofs.Verdicts.{decides-no, decides-map}
-use Rattle.coverage.proofs.Submasks.{next-within}
+use Rattle.domain.proofs.Walk.{next-within}
 use Rattle.coverage.proofs.Pairs.{inside-to, to-inside, empty-inside}
 use Rattle.coverage.proofs.cores.inside_covers.Needs as need
 
