@@ -11,3 +11,4 @@ pub mod Submasks
 pub mod Verdicts
 pub mod Ranges
 pub mod Pairs
+pub mod Counting

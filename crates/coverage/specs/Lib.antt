@@ -4,3 +4,4 @@ pub mod JoinLaws
 pub mod ForgetLaws
 pub mod Rules
 pub mod Walks
+pub mod Counts
