@@ -6,3 +6,6 @@ pub mod joining;
 pub mod keeping;
 pub mod least;
 pub mod window;
+
+#[cfg(test)]
+mod tests;
