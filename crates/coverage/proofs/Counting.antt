@@ -33,26 +33,29 @@ remove (here {gs = gs}) =
     record {
       left = gs;
       shorter = refl;
-      others = λ h ne l. elim (listed-cases l) [ inl e ↦ absurd (ne e) | inr k ↦ k ] }
+      others = λ h ne l. elim (listed-cases l) [ inl e ↦ absurd (ne e) | inr k ↦ k ];
+    }
 remove (there {h = y} l) =
     let r = remove l in
     record {
       left = y ∷ r .left;
       shorter = omega (arith, r .shorter);
       others =
-        λ h ne k.
+          λ h ne k.
           elim (listed-cases k)
-          [ inl e ↦ subst (λ z. Listed h (z ∷ r .left)) e here | inr m ↦ there (r .others h ne m) ] }
+          [ inl e ↦ subst (λ z. Listed h (z ∷ r .left)) e here | inr m ↦ there (r .others h ne m) ];
+    }
 
 -- a list without repetition is no longer than one that has all its entries
 pub once-le : {xs : List ℕ} → Once xs → (ys : List ℕ) → ((g : ℕ) → Listed g xs → Listed g ys) → length xs ≤ length ys
 once-le none ys f = omega arith
 once-le (more {g = g} {gs = gs} n o) ys f =
     let r = remove (f g here) in
-    omega
-    ( arith
-    , r .shorter
-    , once-le o (r .left) (λ h l. r .others h (λ e. n (subst (λ z. Listed z gs) e l)) (f h (there l))) )
+    omega (
+      arith,
+      r .shorter,
+      once-le o (r .left) (λ h l. r .others h (λ e. n (subst (λ z. Listed z gs) e l)) (f h (there l))),
+    )
 
 -- ---- counts
 
@@ -90,7 +93,8 @@ count-start {G} n =
       counted = refl;
       once = none;
       only = λ h l. empty-listed l;
-      all = λ h c b. let z : h ≡ 0 = omega arith in absurd (n (subst (Core G) z c)) }
+      all = λ h c b. let z : h ≡ 0 = omega arith in absurd (n (subst (Core G) z c));
+    }
 
 pub count-skip : {G : ℕ → Type 0} {g k : ℕ} → (Core G g → ⊥) → CountedTo G g k → CountedTo G (g + 1) k
 count-skip {G} {g} n c =
@@ -100,8 +104,9 @@ count-skip {G} {g} n c =
       once = c .once;
       only = λ h l. let o = c .only h l in (o .0, omega (arith, o .1));
       all =
-        λ h k b.
-          elim (ℕ-discrete h g) [ yes e ↦ absurd (n (subst (Core G) e k)) | no ne ↦ c .all h k (omega arith) ] }
+          λ h k b.
+          elim (ℕ-discrete h g) [ yes e ↦ absurd (n (subst (Core G) e k)) | no ne ↦ c .all h k (omega arith) ];
+    }
 
 pub count-one : {G : ℕ → Type 0} {g k : ℕ} → Core G g → CountedTo G g k → CountedTo G (g + 1) (k + 1)
 count-one {G} {g} t c =
@@ -110,13 +115,14 @@ count-one {G} {g} t c =
       counted = omega (arith, c .counted);
       once = more (λ l. omega (arith, c .only g l .1)) (c .once);
       only =
-        λ h l.
+          λ h l.
           elim (listed-cases l)
           [ inl e ↦ (subst (Core G) (sym e) t, omega arith) | inr m ↦ let o = c .only h m in (o .0, omega (arith, o .1)) ];
       all =
-        λ h k b.
+          λ h k b.
           elim (ℕ-discrete h g)
-          [ yes e ↦ subst (λ z. Listed h (z ∷ c .groups)) e here | no ne ↦ there (c .all h k (omega arith)) ] }
+          [ yes e ↦ subst (λ z. Listed h (z ∷ c .groups)) e here | no ne ↦ there (c .all h k (omega arith)) ];
+    }
 
 pub count-end : {G : ℕ → Type 0} {g k : ℕ} → ((h : ℕ) → Core G h → h < g) → CountedTo G g k → CoreCount G k
 count-end b c =
@@ -125,7 +131,8 @@ count-end b c =
       counted = c .counted;
       once = c .once;
       only = λ h l. c .only h l .0;
-      all = λ h k. c .all h k (b h k) }
+      all = λ h k. c .all h k (b h k);
+    }
 
 -- the count of a set with the same groups
 pub count-as : {G H : ℕ → Type 0} {k : ℕ} → ((h : ℕ) → G h → H h) → ((h : ℕ) → H h → G h) → CoreCount G k → CoreCount H k
@@ -135,7 +142,8 @@ count-as f b c =
       counted = c .counted;
       once = c .once;
       only = λ g l. core-as f b (c .only g l);
-      all = λ g k. c .all g (core-as b f k) }
+      all = λ g k. c .all g (core-as b f k);
+    }
 
 -- ---- tables
 

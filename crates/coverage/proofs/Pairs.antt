@@ -20,7 +20,8 @@ inside-to g h c =
       group = c .group;
       holding = c .holding;
       inside = c .inside;
-      smaller = omega (arith, next-lt g g h, c .most) }
+      smaller = omega (arith, next-lt g g h, c .most);
+    }
 
 pub to-inside : {G : ℕ → Type 0} {p q : ℕ} (g : ℕ) → Inside G g p q → CoversTo G g (bitAnd (g - 1) g) p q
 to-inside g i =
@@ -28,7 +29,8 @@ to-inside g i =
       group = i .group;
       holding = i .holding;
       inside = i .inside;
-      most = next-subset (within-self g) (i .inside) (omega (arith, within-le (i .inside), i .smaller)) }
+      most = next-subset (within-self g) (i .inside) (omega (arith, within-le (i .inside), i .smaller));
+    }
 
 pub empty-inside : {G : ℕ → Type 0} {g p q : ℕ} → g ≡ 0 → Inside G g p q → ⊥
 empty-inside {g = g} {p = p} e i = none-in {p = p} (subst (λ m. In p m) e (i .inside .each p (i .holding .left)))
@@ -41,13 +43,15 @@ open-turned o =
       left = o .right;
       right = o .left;
       uncovered =
-        λ i.
+          λ i.
           o .uncovered
           (record {
             group = i .group;
             holding = record { told = i .holding .told; left = i .holding .right; right = i .holding .left };
             inside = i .inside;
-            smaller = i .smaller }) }
+            smaller = i .smaller;
+          });
+    }
 
 pub open-core : {G : ℕ → Type 0} {g p q : ℕ} → G g → OpenPair G g p q → Core G g
 open-core {p = p} {q = q} t o =
@@ -58,8 +62,9 @@ open-core {p = p} {q = q} t o =
       left = o .left;
       right = o .right;
       uncovered =
-        λ h k w ne i j.
-          o .uncovered (record { group = h; holding = record { told = k; left = i; right = j }; inside = w; smaller = ne }) }
+          λ h k w ne i j.
+          o .uncovered (record { group = h; holding = record { told = k; left = i; right = j }; inside = w; smaller = ne });
+    }
 
 pub core-open : {G : ℕ → Type 0} {g : ℕ} (c : Core G g) → OpenPair G g (c .p) (c .q)
 core-open c =
@@ -67,8 +72,9 @@ core-open c =
       left = c .left;
       right = c .right;
       uncovered =
-        λ i.
-          c .uncovered (i .group) (i .holding .told) (i .inside) (i .smaller) (i .holding .left) (i .holding .right) }
+          λ i.
+          c .uncovered (i .group) (i .holding .told) (i .inside) (i .smaller) (i .holding .left) (i .holding .right);
+    }
 
 -- ---- the loops over pairs
 
@@ -90,25 +96,27 @@ pub closed-at-more : {G : ℕ → Type 0} {g p q : ℕ} → (OpenPair G g p q �
 closed-at-more {G} {g} {p} {q} n k =
     record {
       none =
-        λ b h m o.
-          elim (ℕ-discrete b q) [ yes e ↦ n (subst (OpenPair G g p) e o) | no ne ↦ k .none b (omega arith) m o ] }
+          λ b h m o.
+          elim (ℕ-discrete b q) [ yes e ↦ n (subst (OpenPair G g p) e o) | no ne ↦ k .none b (omega arith) m o ];
+    }
 
 pub closed-more : {G : ℕ → Type 0} {g p q : ℕ} → g < 2 ^ 16 → 16 ≤ q → ClosedAt G g p q → Closed G g p → Closed G g (p + 1)
 closed-more {G} {g} {p} {q} small past k all =
     record {
       none =
-        λ a b h m o.
-          elim (ℕ-discrete a p)
-          [ yes e ↦ k .none b (omega (arith, in-below 16 (o .right) small)) (omega arith) (subst (λ x. OpenPair G g x b) e o)
-          | no ne ↦ all .none a b (omega arith) m o
-          ] }
+          λ a b h m o.
+          elim (ℕ-discrete a p) [
+            | yes e ↦ k .none b (omega (arith, in-below 16 (o .right) small)) (omega arith) (subst (λ x. OpenPair G g x b) e o)
+            | no ne ↦ all .none a b (omega arith) m o
+          ];
+    }
 
 pub closed-core : {G : ℕ → Type 0} {g p : ℕ} → g < 2 ^ 16 → 16 ≤ p → Closed G g p → Core G g → ⊥
 closed-core small past k c =
-    elim (decLt (c .q) (c .p))
-    [ yes h ↦
-      k .none (c .q) (c .p) (omega (arith, in-below 16 (c .right) small)) (omega arith) (open-turned (core-open c))
-    | no h ↦ k .none (c .p) (c .q) (omega (arith, in-below 16 (c .left) small)) (omega arith) (core-open c)
+    elim (decLt (c .q) (c .p)) [
+      | yes h ↦
+          k .none (c .q) (c .p) (omega (arith, in-below 16 (c .right) small)) (omega arith) (open-turned (core-open c))
+      | no h ↦ k .none (c .p) (c .q) (omega (arith, in-below 16 (c .left) small)) (omega arith) (core-open c)
     ]
 
 -- the core of a set with the same groups
@@ -120,4 +128,5 @@ core-as {g = g} f b c =
       q = c .q;
       left = c .left;
       right = c .right;
-      uncovered = λ h t w ne i j. c .uncovered h (b h t) w ne i j }
+      uncovered = λ h t w ne i j. c .uncovered h (b h t) w ne i j;
+    }

@@ -15,4 +15,5 @@ pub ground-kept : {d e : Told} {p : ℕ} → d .n ≡ e .n → SameCover (Group 
 ground-kept {p = p} n s g =
     record {
       position = rw (← n) (g .position);
-      none = λ h t i. let k = s .from h p p (covers-own t i i) in g .none (k .group) (k .told) (k .left) }
+      none = λ h t i. let k = s .from h p p (covers-own t i i) in g .none (k .group) (k .told) (k .left);
+    }

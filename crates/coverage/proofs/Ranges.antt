@@ -26,11 +26,11 @@ pub range-narrow : (n g : ℕ) → g ≢ 0 → eqb (g / 2 ^ n) 0 ≡ inRange n g
 unfolding inRange
 range-narrow n g e =
     rw (lt-ltb 0 g (omega arith))
-    (elim (decLt g (2 ^ n))
-    [ yes h ↦ eq-eqb _ 0 (div-eq-of-lt h) ∙ sym (lt-ltb g (2 ^ n) h)
-    | no h ↦
-      ne-eqb _ 0 (λ z. high (omega arith) z)
-      ∙ sym (le-ltb g (2 ^ n) (omega arith))
+    (elim (decLt g (2 ^ n)) [
+      | yes h ↦ eq-eqb _ 0 (div-eq-of-lt h) ∙ sym (lt-ltb g (2 ^ n) h)
+      | no h ↦
+          ne-eqb _ 0 (λ z. high (omega arith) z)
+          ∙ sym (le-ltb g (2 ^ n) (omega arith))
     ])
   where
     high : 2 ^ n ≤ g → g / 2 ^ n ≡ 0 → ⊥

@@ -30,11 +30,12 @@ walk-on {G} {w} {from} {p} {q} {s} pos n k =
       inside = next-within s w;
       below = omega (arith, next-lt w s pos, k .below);
       passed =
-        λ h t u m.
-          elim (ℕ-discrete h s)
-          [ yes e ↦ absurd (n (subst (Holding G p q) e t))
-          | no ne ↦ next-subset (k .inside) u (omega (arith, k .passed h t u m))
-          ] }
+          λ h t u m.
+          elim (ℕ-discrete h s) [
+            | yes e ↦ absurd (n (subst (Holding G p q) e t))
+            | no ne ↦ next-subset (k .inside) u (omega (arith, k .passed h t u m))
+          ];
+    }
 
 pub walk-found : {G : ℕ → Type 0} {w from p q s : ℕ} → Holding G p q s → Walked G w from p q s → CoversTo G w from p q
 walk-found {s = s} t k = record { group = s; holding = t; inside = k .inside; most = k .below }
@@ -54,4 +55,5 @@ within-covers c =
       group = c .group;
       holding = record { told = c .told; left = c .left; right = c .right };
       inside = c .inside;
-      most = within-le (c .inside) }
+      most = within-le (c .inside);
+    }

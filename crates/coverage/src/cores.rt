@@ -75,11 +75,9 @@ pub fn core_count(table: &[u8], n: u8) -> Result<u16, Refusal>
 // A core of k groups fits a capacity exactly where k is not above it.
 pub fn count_decides_fit()
     ensures { λ _. ⌜ CountDecidesFit ⌝ }
-{
-}
+{}
 
 // The cores of alike descriptions have the same number of groups.
 pub fn alike_count_alike()
     ensures { λ _. ⌜ AlikeCountAlike ⌝ }
-{
-}
+{}

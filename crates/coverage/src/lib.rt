@@ -5,7 +5,6 @@ pub mod forgetting;
 pub mod joining;
 pub mod keeping;
 pub mod least;
-pub mod window;
-
 #[cfg(test)]
 mod tests;
+pub mod window;

@@ -11,25 +11,28 @@ loop-g-holds c =
 
 pub loop-g-again : need.loop-g-again
 loop-g-again c =
-    elim (c .if-is-core .came)
-    [ then-is-core w ↦
-      ( omega (arith, w .count-is, c .loop-g .inv .0)
-      , rw (w .count-is) (count-one (c .is-core .ensures 0 0 .0 (w .if-is-core .taken)) (c .loop-g .inv .1)) )
-    | else-is-core w ↦
-      ( omega (arith, w .count-is, c .loop-g .inv .0)
-      , rw (w .count-is) (count-skip (decided-no (c .is-core .ensures 0 0) (w .if-is-core .left)) (c .loop-g .inv .1)) )
+    elim (c .if-is-core .came) [
+      | then-is-core w ↦ (
+        omega (arith, w .count-is, c .loop-g .inv .0),
+        rw (w .count-is) (count-one (c .is-core .ensures 0 0 .0 (w .if-is-core .taken)) (c .loop-g .inv .1)),
+      )
+      | else-is-core w ↦ (
+        omega (arith, w .count-is, c .loop-g .inv .0),
+        rw (w .count-is) (count-skip (decided-no (c .is-core .ensures 0 0) (w .if-is-core .left)) (c .loop-g .inv .1)),
+      )
     ]
 
 pub returns : need.returns
 returns c =
     rw (ne-eqb (c .args .n) 0 (c .if-n-eq0 .left), le-ltb 12 (c .args .n) (c .if-n-gt12 .left))
     (λ f l.
-      count-as (λ g t. record { told = t .told }) (λ g t. record { told = t .told })
-      (count-end
-      (λ h k.
-        omega
-        ( arith
-        , core-range (c .args .n) (c .args .table .now) h k .1
-        , shifted-end (c .args .n) (c .if-n-gt12 .left)
-        , c .loop-g-test .left ))
-      (c .loop-g .inv .1)))
+    count-as (λ g t. record { told = t .told }) (λ g t. record { told = t .told })
+    (count-end
+    (λ h k.
+    omega (
+      arith,
+      core-range (c .args .n) (c .args .table .now) h k .1,
+      shifted-end (c .args .n) (c .if-n-gt12 .left),
+      c .loop-g-test .left,
+    ))
+    (c .loop-g .inv .1)))

@@ -24,14 +24,14 @@ pairs-again c =
 pub returns-after-pairs : need.returns-after-pairs
 returns-after-pairs c =
     λ f l.
-      rw (c .pairs .inv .0)
-      (decides-no (λ k.
-        closed-core (c .fits .g .fits) (c .pairs-test .left) (c .pairs .inv .1)
-        (core-as (λ g t. record { told = t .told }) (λ g t. record { told = t .told }) k)))
+    rw (c .pairs .inv .0)
+    (decides-no (λ k.
+    closed-core (c .fits .g .fits) (c .pairs-test .left) (c .pairs .inv .1)
+    (core-as (λ g t. record { told = t .told }) (λ g t. record { told = t .told }) k)))
 
 pub returns-then-is-open : need.returns-then-is-open
 returns-then-is-open c =
     λ f l.
-      decides-yes
-      (core-as (λ g t. record { told = t .told }) (λ g t. record { told = t .told })
-      (open-core (c .is-group .ensures 0 0 .0 (c .if-not-is-group .left)) (c .is-open .ensures .0 (c .if-is-open .taken))))
+    decides-yes
+    (core-as (λ g t. record { told = t .told }) (λ g t. record { told = t .told })
+    (open-core (c .is-group .ensures 0 0 .0 (c .if-not-is-group .left)) (c .is-open .ensures .0 (c .if-is-open .taken))))

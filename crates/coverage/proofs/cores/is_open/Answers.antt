@@ -13,9 +13,10 @@ pub returns : need.returns
 returns c =
     decides-map
     (λ n.
-      record {
-        left = c .is-in .ensures .0 (c .if-not-is-in .left);
-        right = c .is-in-2 .ensures .0 (c .if-not-is-in-2 .left);
-        uncovered = n })
+    record {
+      left = c .is-in .ensures .0 (c .if-not-is-in .left);
+      right = c .is-in-2 .ensures .0 (c .if-not-is-in-2 .left);
+      uncovered = n;
+    })
     (λ o. o .uncovered)
     (decides-not (c .inside-covers .result) (c .inside-covers .ensures))
