@@ -3,9 +3,9 @@ use mathlib.Core.Path.{_≡_, refl, sym, _∙_, subst}
 use mathlib.Core.Logic.{_⊎_, inl, inr}
 use Prim.Native.Nat.{ℕ}
 use Rattle.domain.specs.Masks.{In, Within}
-use Rattle.domain.specs.Told.{Told, Group, Share, Ground}
-use Rattle.domain.specs.Coverage.{Covers, SameCover, Alike}
-use Rattle.domain.specs.Binding.{FreeTerm, Once, LinearTerm, FreePosition, LinearPosition, Fits, NewGroup, InX, InT, StaysFree, StaysLinear, Bound}
+use Rattle.domain.specs.Told.{Told, Group}
+use Rattle.domain.specs.Coverage.{SameCover, Alike}
+use Rattle.domain.specs.Binding.{FreeTerm, Once, LinearTerm, FreePosition, Fits, NewGroup, InX, InT, StaysFree, StaysLinear, Bound}
 use Rattle.domain.specs.declared.case.Case.{Case}
 use Rattle.domain.specs.declared.case.Case.the-variants.{Free, BothLinear, PositionLinear, TermLinear, Neither}
 use Rattle.domain.specs.declared.term.Term.{Term}

@@ -1,18 +1,21 @@
 -- The closed form of what the groups of a bind cover.
-use mathlib.Core.Path.{_≡_, refl, sym, subst}
-use mathlib.Core.Logic.{_⊎_, inl, inr, _↔_}
-use Prim.Native.Nat.{ℕ}
+use mathlib.Core.Path.{_≡_, refl, subst}
+use mathlib.Core.Logic.{_⊎_, inl, inr}
+use Prim.Native.Nat.{ℕ, _^_}
 use lib.Bits.{bitOr}
-use Rattle.domain.specs.Masks.{In, Within, Meets}
-use Rattle.domain.specs.Groups.{XGroup, TGroup, Shared, Rest, Paired, Closure, one, more, Extended, alone, joined}
+use Rattle.domain.specs.Masks.{In, Within}
+use Rattle.domain.specs.Groups.{XGroup, TGroup, Shared, Paired, Closure, one, more, Extended, alone, joined}
+use Rattle.domain.specs.Told.{Told, Group}
 use Rattle.domain.specs.Coverage.{Covers, SameCover}
-use Rattle.domain.specs.Binding.{Made, NewGroup, rest, made}
+use Rattle.domain.specs.Binding.{Made, NewGroup, rest, made, Bound}
+use Rattle.domain.specs.declared.term.Term.{Term}
 use Rattle.domain.specs.declared.case.Case.{Case}
 use Rattle.domain.specs.declared.case.Case.the-variants.{Free, BothLinear, PositionLinear, TermLinear, Neither}
+use Rattle.coverage.specs.Windows.{minus}
 use Rattle.coverage.specs.BindLaws.{Apart, WithTerm, TermCovered, UnitesX, UnitesT, Linked, before, across, back, by-x, by-t, BindCovers, untouched, met}
-use Rattle.domain.proofs.Bits.{in-either, in-left, in-right, union-within, within-left, within-right, within-self, within-trans}
+use Rattle.domain.proofs.Bits.{in-lacking, lacking-in, in-single, single-in, in-either, in-left, in-right, union-within, within-left, within-right, within-self, within-trans}
 use Rattle.coverage.proofs.Decided.{dec-in, dec-meets}
-use Rattle.coverage.proofs.Cover.{covers-own, covers-wider, covers-turned}
+use Rattle.coverage.proofs.Cover.{covers-own, covers-wider, covers-more}
 
 -- ---- wider windows
 
@@ -395,4 +398,35 @@ bind-same s =
     record {
       to = λ w p q k. bind-cover-from (bind-covers-more (s .to) (bind-cover-to k));
       from = λ w p q k. bind-cover-from (bind-covers-more (s .from) (bind-cover-to k));
+    }
+
+-- ---- what a bind makes
+
+pub bound-cover-to : {d e : Told} {x : ℕ} {t : Term} {w p q : ℕ} (b : Bound d x t e) → Covers (Group e) w p q → BindCovers (Covers (Group d)) x (t .held) (b .case) w p q
+bound-cover-to b k = bind-cover-to (covers-more (b .groups-only) k)
+
+pub bound-cover-from : {d e : Told} {x : ℕ} {t : Term} {w p q : ℕ} (b : Bound d x t e) → BindCovers (Covers (Group d)) x (t .held) (b .case) w p q → Covers (Group e) w p q
+bound-cover-from b k = covers-more (b .groups-made) (bind-cover-from k)
+
+-- ---- the window without x and the term
+
+pub apart-window : {G : ℕ → Type 0} {x v w p q : ℕ} → Apart (Covers G) x v w p q → Covers G (minus w (bitOr (2 ^ x) v)) p q
+apart-window {x = x} {v = v} {w = w} a = covers-wider (record { each = λ r i. in-lacking (a .inside .each r i) (out r i) }) (a .covered)
+  where
+    out : (r : ℕ) → In r (a .part) → In r (bitOr (2 ^ x) v) → ⊥
+    out r i j =
+        elim (in-either (2 ^ x) v j) [
+          | inl k ↦ a .without (subst (λ y. In y (a .part)) (single-in k) i)
+          | inr k ↦ a .apart (record { place = r; left = i; right = k })
+        ]
+
+pub window-apart : {G : ℕ → Type 0} {p q : ℕ} (x v w : ℕ) → Covers G (minus w (bitOr (2 ^ x) v)) p q → Apart (Covers G) x v w p q
+window-apart x v w k =
+    let u = bitOr (2 ^ x) v in
+    record {
+      part = minus w u;
+      inside = record { each = λ r i. lacking-in w u i .0 };
+      without = λ i. lacking-in w u i .1 (in-left v (in-single x));
+      apart = λ m. lacking-in w u (m .left) .1 (in-right (2 ^ x) (m .right));
+      covered = k;
     }

@@ -1,8 +1,8 @@
 -- The core of a set: it covers the same pairs, and every set that does so holds it.
-use mathlib.Core.Path.{_≡_, refl, sym, subst}
-use mathlib.Core.Logic.{_⊎_, inl, inr, _≢_}
+use mathlib.Core.Path.{_≡_, sym, subst}
+use mathlib.Core.Logic.{_⊎_, inl, inr}
 use mathlib.Core.Bool.{true, Bool-discrete}
-use Prim.Native.Nat.{ℕ, zero, suc, _<_, _≤_}
+use Prim.Native.Nat.{ℕ, zero, suc, _<_}
 use native.Mathlib.Decide.{ℕ-discrete}
 use native.Mathlib.Omega.{arith}
 use Rattle.domain.specs.Masks.{In, Within}
@@ -10,7 +10,7 @@ use Rattle.domain.specs.Told.{Told, Group}
 use Rattle.domain.specs.Coverage.{Covers, SameCover, Alike, Core, CoreFits}
 use Rattle.domain.proofs.Bits.{within-le, same-mask, within-trans}
 use Rattle.coverage.proofs.Decided.{dec-in, dec-within}
-use Rattle.coverage.proofs.Cover.{covers-own, covers-wider, same-turned, same-trans, same-groups, alike-turned}
+use Rattle.coverage.proofs.Cover.{covers-own, same-turned, same-trans, same-groups}
 
 -- ---- the least number of which a test holds
 

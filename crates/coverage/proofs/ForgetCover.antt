@@ -1,20 +1,16 @@
 -- What a forget covers, and that it takes alike descriptions to alike ones.
 use mathlib.Core.Path.{_≡_, refl, sym, _∙_, subst}
-use mathlib.Core.Logic.{_⊎_, inl, inr}
+use mathlib.Core.Logic.{inl, inr}
 use Prim.Native.Nat.{ℕ, _^_}
-use lib.Bits.{bitOr, bitAnd, bitXor}
 use Rattle.domain.specs.Masks.{In, Within}
 use Rattle.domain.specs.Told.{Told, Group}
-use Rattle.domain.specs.Coverage.{Covers, SameCover, Alike}
+use Rattle.domain.specs.Coverage.{Covers, Alike}
 use Rattle.domain.specs.Forgetting.{Stripped, Renewed, Forgotten}
+use Rattle.coverage.specs.Windows.{minus}
 use Rattle.coverage.specs.ForgetLaws.{ForgetCovers, others, itself}
 use Rattle.domain.proofs.Bits.{in-either, in-left, in-right, in-single, single-in, in-pos, in-lacking, lacking-in, same-mask}
 use Rattle.coverage.proofs.Decided.{dec-in}
 use Rattle.coverage.proofs.Cover.{alike-turned}
-
--- the positions of a that are not in b
-abbrev pub minus : ℕ → ℕ → ℕ
-minus a b = bitXor a (bitAnd a b)
 
 -- what a group leaves without m, where it keeps a position
 pub stripped : {d : Told} {m g p : ℕ} → Group d g → In p g → (In p m → ⊥) → Stripped d m (minus g m)

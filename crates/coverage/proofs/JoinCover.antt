@@ -1,11 +1,11 @@
 -- What a join covers, and that it takes alike descriptions to alike ones.
-use mathlib.Core.Path.{_≡_, sym, _∙_}
+use mathlib.Core.Path.{sym, _∙_}
 use mathlib.Core.Logic.{_⊎_, inl, inr}
 use mathlib.Core.List.{List}
 use Prim.Native.Nat.{ℕ}
-use Rattle.domain.specs.Masks.{In, Within}
+use Rattle.domain.specs.Masks.{Within}
 use Rattle.domain.specs.Told.{Told, Group}
-use Rattle.domain.specs.Coverage.{Covers, SameCover, Listed, Alike}
+use Rattle.domain.specs.Coverage.{Covers, Listed, Alike}
 use Rattle.domain.specs.Joining.{Joined}
 use Rattle.domain.proofs.Bits.{same-mask}
 use Rattle.coverage.proofs.Cover.{covers-more, alike-turned}

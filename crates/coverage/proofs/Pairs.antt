@@ -1,14 +1,13 @@
 -- A group is a core group exactly where it has a pair that no group strictly inside it covers.
 use mathlib.Core.Path.{_≡_, subst}
-use mathlib.Core.Logic.{_≢_}
 use Prim.Native.Nat.{ℕ, _+_, _-_, _^_, _≤_, _<_}
 use native.Mathlib.Decide.{decLt, ℕ-discrete}
 use native.Mathlib.Omega.{arith}
 use lib.Bits.{bitAnd}
-use Rattle.domain.specs.Masks.{In, Within}
+use Rattle.domain.specs.Masks.{In}
 use Rattle.domain.specs.Coverage.{Core}
 use Rattle.domain.proofs.Bits.{within-self, within-le, in-below, none-in}
-use Rattle.coverage.specs.Walks.{Holding, CoversTo, Inside, OpenPair}
+use Rattle.coverage.specs.Walks.{CoversTo, Inside, OpenPair}
 use Rattle.domain.proofs.Walk.{next-subset}
 use Rattle.coverage.proofs.Submasks.{next-lt}
 

@@ -1,10 +1,10 @@
 -- What descriptions that cover the same pairs say alike of their positions: sharing and groundness.
 use mathlib.Core.Path.{_≡_}
 use Prim.Native.Nat.{ℕ}
-use Rattle.domain.specs.Masks.{In}
 use Rattle.domain.specs.Told.{Told, Group, Share, Ground}
-use Rattle.domain.specs.Coverage.{SameCover}
-use Rattle.coverage.proofs.Cover.{covers-own}
+use Rattle.domain.specs.Coverage.{SameCover, Alike}
+use Rattle.coverage.specs.Likeness.{SameAnswers}
+use Rattle.coverage.proofs.Cover.{covers-own, alike-turned}
 
 pub share-kept : {d e : Told} {p q : ℕ} → SameCover (Group d) (Group e) → Share d p q → Share e p q
 share-kept {p = p} {q = q} s h =
@@ -16,4 +16,14 @@ ground-kept {p = p} n s g =
     record {
       position = rw (← n) (g .position);
       none = λ h t i. let k = s .from h p p (covers-own t i i) in g .none (k .group) (k .told) (k .left);
+    }
+
+pub same-answers : {d e : Told} → Alike d e → SameAnswers d e
+same-answers a =
+    let b = alike-turned a in
+    record {
+      share = λ p q. (λ s. share-kept (a .cover) s, λ s. share-kept (b .cover) s);
+      ground = λ p. (λ g. ground-kept (a .positions) (a .cover) g, λ g. ground-kept (b .positions) (b .cover) g);
+      free = λ p. (λ i. rw (← a .free) i, λ i. rw (a .free) i);
+      linear = λ p. (λ i. rw (← a .linear) i, λ i. rw (a .linear) i);
     }

@@ -4,7 +4,7 @@ use Prim.Native.Nat.{ℕ, _-_, _≤_, _<_}
 use native.Mathlib.Decide.{ℕ-discrete}
 use native.Mathlib.Omega.{arith}
 use lib.Bits.{bitAnd, and-le-l}
-use Rattle.domain.specs.Masks.{In, Within}
+use Rattle.domain.specs.Masks.{Within}
 use Rattle.domain.specs.Coverage.{Covers}
 use Rattle.domain.proofs.Bits.{within-le, in-pos}
 use Rattle.domain.proofs.Walk.{next-subset, next-within}

@@ -1,3 +1,5 @@
+pub mod Windows
+pub mod Likeness
 pub mod CoreLaws
 pub mod BindLaws
 pub mod JoinLaws

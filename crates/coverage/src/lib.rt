@@ -5,6 +5,7 @@ pub mod forgetting;
 pub mod joining;
 pub mod keeping;
 pub mod least;
+pub mod likeness;
 #[cfg(test)]
 mod tests;
 pub mod window;
