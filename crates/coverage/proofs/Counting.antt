@@ -11,7 +11,7 @@ use lib.Pow.{pow-mono}
 use Rattle.domain.specs.Coverage.{Core, Listed, here, there, CoreFits, SameCover}
 use Rattle.domain.proofs.Laws.{of-group}
 use Rattle.coverage.specs.Walks.{TableGroup}
-use Rattle.coverage.specs.Counts.{Once, none, more, CoreCount}
+use Rattle.coverage.specs.Counts.{Distinct, none, more, CoreCount}
 use Rattle.coverage.proofs.Cover.{same-turned}
 use Rattle.coverage.proofs.CoreLeast.{core-kept}
 use Rattle.coverage.proofs.Pairs.{core-as}
@@ -47,7 +47,7 @@ remove (there {h = y} l) =
     }
 
 -- a list without repetition is no longer than one that has all its entries
-pub once-le : {xs : List ℕ} → Once xs → (ys : List ℕ) → ((g : ℕ) → Listed g xs → Listed g ys) → length xs ≤ length ys
+pub once-le : {xs : List ℕ} → Distinct xs → (ys : List ℕ) → ((g : ℕ) → Listed g xs → Listed g ys) → length xs ≤ length ys
 once-le none ys f = omega arith
 once-le (more {g = g} {gs = gs} n o) ys f =
     let r = remove (f g here) in
@@ -79,7 +79,7 @@ count-same s c d = le-antisymm (count-le s c d) (count-le (same-turned s) d c)
 pub record CountedTo (G : ℕ → Type 0) (g k : ℕ) : Type 0 where
   pub groups : List ℕ
   pub counted : length groups ≡ k
-  pub once : Once groups
+  pub once : Distinct groups
   pub only : (h : ℕ) → Listed h groups → Core G h × (h < g)
   pub all : (h : ℕ) → Core G h → h < g → Listed h groups
 

@@ -8,15 +8,15 @@ use Rattle.domain.specs.Told.{Told, Group}
 use Rattle.domain.specs.Coverage.{Core, Listed, CoreFits, Alike}
 
 -- no number stands twice in the list
-pub data Once : List ℕ → Type 0 where
-  none : Once []
-  more : {g : ℕ} {gs : List ℕ} → (Listed g gs → ⊥) → Once gs → Once (g ∷ gs)
+pub data Distinct : List ℕ → Type 0 where
+  none : Distinct []
+  more : {g : ℕ} {gs : List ℕ} → (Listed g gs → ⊥) → Distinct gs → Distinct (g ∷ gs)
 
 -- the core has exactly k groups
 pub record CoreCount (G : ℕ → Type 0) (k : ℕ) : Type 0 where
   pub groups : List ℕ
   pub counted : length groups ≡ k
-  pub once : Once groups
+  pub once : Distinct groups
   pub only : (g : ℕ) → Listed g groups → Core G g
   pub all : (g : ℕ) → Core G g → Listed g groups
 

@@ -3,6 +3,7 @@ use mathlib.Core.Logic.{_↔_}
 use Prim.Native.Nat.{ℕ}
 use Rattle.domain.specs.Masks.{In}
 use Rattle.domain.specs.Told.{Told, Share, Ground}
+use Rattle.domain.specs.Opening.{New}
 use Rattle.domain.specs.Coverage.{Alike}
 
 -- likeness is an equivalence
@@ -20,3 +21,7 @@ pub record SameAnswers (d e : Told) : Type 0 where
 
 abbrev pub AlikeAnswerAlike : Type 0
 AlikeAnswerAlike = (d e : Told) → Alike d e → SameAnswers d e
+
+-- two new descriptions of the same number of positions are alike
+abbrev pub NewAreAlike : Type 0
+NewAreAlike = (n : ℕ) (d e : Told) → New n d → New n e → Alike d e
