@@ -1,0 +1,2 @@
+// The bind rule.
+mod walk;
