@@ -8,3 +8,4 @@ pub mod Opening
 pub mod Walk
 pub mod Hull
 pub mod Made
+pub mod Cases

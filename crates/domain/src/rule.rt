@@ -1,2 +1,3 @@
 // The bind rule.
+mod made;
 mod walk;
