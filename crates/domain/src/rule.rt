@@ -1,3 +1,4 @@
 // The bind rule.
 mod made;
+mod rewrite;
 mod walk;
