@@ -9,3 +9,4 @@ pub mod Walk
 pub mod Hull
 pub mod Made
 pub mod Cases
+pub mod Linearity

@@ -13,3 +13,4 @@ pub mod Filling
 pub mod Reaching
 pub mod Lawful
 pub mod Descriptions
+pub mod Signs
