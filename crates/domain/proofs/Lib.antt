@@ -10,3 +10,4 @@ pub mod Hull
 pub mod Made
 pub mod Cases
 pub mod Linearity
+pub mod Marks

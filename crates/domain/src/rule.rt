@@ -2,6 +2,7 @@
 mod choice;
 mod linear;
 mod made;
+mod marks;
 mod rewrite;
 mod signs;
 mod walk;
