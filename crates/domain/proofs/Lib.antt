@@ -11,3 +11,4 @@ pub mod Made
 pub mod Cases
 pub mod Linearity
 pub mod Marks
+pub mod Binding
