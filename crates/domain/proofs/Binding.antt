@@ -3,11 +3,13 @@ use mathlib.Core.Path.{_≡_, refl, sym, ap, _∙_, subst}
 use mathlib.Core.Logic.{_⊎_, inl, inr}
 use mathlib.Core.Bool.{Bool, true, false}
 use mathlib.Core.List.{List}
-use Prim.Native.Nat.{ℕ, _^_, _<_}
+use Prim.Native.Nat.{ℕ, _^_, _<_, _≤_}
 use native.Mathlib.Omega.{arith}
 use lib.Bits.{bitOr}
+use lib.ListN.{take}
+use lib.Pow.{pow-mono}
 use Rattle.std.specs.Orderings.{Decides}
-use Rattle.std.proofs.shelf.Ways.{not-from-decides}
+use Rattle.std.proofs.shelf.Ways.{not-from-decides, decides-at}
 use Rattle.domain.specs.Masks.{In, Meets}
 use Rattle.domain.specs.Told.{Told, Group, Ground, Lawful}
 use Rattle.domain.specs.Groups.{XGroup, TGroup, Rest, Paired}
@@ -21,6 +23,7 @@ use Rattle.domain.specs.declared.rule.signs.Signs.{Signs}
 use Rattle.domain.specs.declared.term.Term.{Term}
 use Rattle.domain.proofs.Bits.{in-or-not, meets-or-not, in-pos, in-below, below-lt, in-left, in-right, in-either, in-single}
 use Rattle.domain.proofs.Laws.{group-of, of-group}
+use Rattle.domain.proofs.Tables.{front-bit}
 use Rattle.domain.proofs.Made.{From, made-holds, new-from}
 
 -- the case that the answers choose fits
@@ -97,6 +100,29 @@ module _ (d : Told) (law : Lawful d) (x : ℕ) (t : Term) (c : Case) (bits : Lis
       only : (p : ℕ) → In p (bitOr k f) ⊎ In p a → StaysLinear d x t p ⊎ (In p f ⊎ Ground (toldOf (d .n) bits f l) p)
       only p (inl i) = elim (in-either k f i) [ inl j ↦ inl (linear-only p j) | inr j ↦ inr (inl j) ]
       only p (inr i) = inr (inr (ground-made p i))
+
+-- the same with the new table at the front of a scratch list
+pub bound-made :
+    (d : Told) → Lawful d → (x : ℕ) (t : Term) (s : Signs) (c : Case) (scratch bits : List ℕ) (f k a : ℕ)
+    → Seen d x t s
+    → Chosen s c
+    → ((u : ℕ) → 0 < u → u < 2 ^ d .n → Decides (holdsBit scratch u) (NewGroup (Group d) x (t .held) c u))
+    → bits ≡ take 512 scratch
+    → ((p : ℕ) → StaysFree d x t p → In p f)
+    → ((p : ℕ) → In p f → StaysFree d x t p)
+    → ((p : ℕ) → StaysLinear d x t p → In p k)
+    → ((p : ℕ) → In p k → StaysLinear d x t p)
+    → ((g l p : ℕ) → In p a → Ground (toldOf (d .n) bits g l) p)
+    → ((g l p : ℕ) → Ground (toldOf (d .n) bits g l) p → In p a)
+    → Bound d x t (toldOf (d .n) bits f (bitOr (bitOr k f) a))
+bound-made d law x t s c scratch bits f k a seen chosen new front free-kept free-only linear-kept linear-only ground-made ground-all =
+    bound-of d law x t c bits f k a (bitOr (bitOr k f) a) (fits-of d x t s c seen chosen) (λ u some h. decides-at _ _ (bit u h) (new u some h))
+    free-kept free-only linear-kept linear-only (ground-made f (bitOr (bitOr k f) a)) (ground-all f (bitOr (bitOr k f) a)) refl
+  where
+    bit : (u : ℕ) → u < 2 ^ d .n → holdsBit bits u ≡ holdsBit scratch u
+    bit u h =
+        let few : d .n ≤ 12 = omega (arith, law .few-positions) in
+        rw front (front-bit scratch u (omega (arith, h, pow-mono few)))
 
 -- where the term or the position is free, no other case fits
 free-by-term : (d : Told) (x : ℕ) (t : Term) (c : Case) → Fits d x t c → FreeTerm d t → c ≡ Free

@@ -12,3 +12,4 @@ pub mod Cases
 pub mod Linearity
 pub mod Marks
 pub mod Binding
+pub mod Refusing

@@ -3,6 +3,7 @@ ghost use Prim.Native.Nat.{_<_, _^_};
 ghost use Rattle.domain.specs.Lawful.{Counted, FreeLinear, GroundLinear, FreeHeld};
 
 mod ask;
+mod bind;
 mod opening;
 mod read;
 

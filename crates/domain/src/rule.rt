@@ -1,8 +1,9 @@
 // The bind rule.
-mod choice;
+pub(crate) mod choice;
 mod linear;
 mod made;
-mod marks;
-mod rewrite;
+pub(crate) mod marks;
+pub(crate) mod request;
+pub(crate) mod rewrite;
 mod signs;
 mod walk;
