@@ -8,3 +8,5 @@ pub mod refusal;
 mod rule;
 pub mod table;
 pub mod term;
+#[cfg(test)]
+mod tests;
