@@ -1,5 +1,4 @@
 // The yes-or-no questions. A position out of range is refused.
-ghost use Rattle.domain.specs.Binding.{InT};
 ghost use Rattle.domain.specs.Descriptions.{told};
 ghost use Rattle.domain.specs.Masks.{In};
 ghost use Rattle.domain.specs.Reaching.{Reach};

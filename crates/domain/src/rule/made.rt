@@ -1,10 +1,9 @@
 // The groups that a bind makes, mask by mask: whether u is one of them.
 ghost use Prim.Native.Nat.{_<_};
 ghost use Rattle.domain.specs.Binding.{Made, NewGroup};
-ghost use Rattle.domain.specs.Descriptions.{told};
-ghost use Rattle.domain.specs.Filling.{Touching};
+ghost use Rattle.domain.specs.Descriptions.{GroupOf};
+ghost use Rattle.domain.specs.Filling.{Touching, Side};
 ghost use Rattle.domain.specs.Groups.{Paired, Closure, Extended};
-ghost use Rattle.domain.specs.Told.{Group};
 ghost use Rattle.std.specs.Orderings.{Decides};
 use super::walk::filled;
 use super::walk::filled_both;
@@ -18,7 +17,7 @@ use crate::mask::single;
 // Whether u is a group after the bind. What is made holds x and meets the term; the rest does neither.
 pub(crate) fn becomes_group(d: &Description, x: u8, held: u16, case: Case, u: u16) -> bool
     requires { ⌜ x < 16 ⌝ }
-    ensures { λ r. ⌜ Decides r (NewGroup (Group (told (now (d .entry)))) x held case u) ⌝ }
+    ensures { λ r. ⌜ Decides r (NewGroup (GroupOf (now (d .entry))) x held case u) ⌝ }
 {
     match (has(u, x), meets(u, held)) {
         (true, true) => is_made(d, x, held, case, u),
@@ -30,7 +29,7 @@ pub(crate) fn becomes_group(d: &Description, x: u8, held: u16, case: Case, u: u1
 // Whether u is one of the groups that the case makes.
 fn is_made(d: &Description, x: u8, held: u16, case: Case, u: u16) -> bool
     requires { ⌜ x < 16 ⌝ }
-    ensures { λ r. ⌜ Decides r (Made (Group (told (now (d .entry)))) x held case u) ⌝ }
+    ensures { λ r. ⌜ Decides r (Made (GroupOf (now (d .entry))) x held case u) ⌝ }
 {
     let bound = single(x);
     match case {
@@ -44,7 +43,7 @@ fn is_made(d: &Description, x: u8, held: u16, case: Case, u: u16) -> bool
 
 // Whether u is united of groups that meet a and of one that meets b, with shared ones beside it.
 fn closed_with_one(d: &Description, a: u16, b: u16, u: u16) -> bool
-    ensures { λ r. ⌜ Decides r (Paired (Closure (Touching (Group (told (now (d .entry)))) a a)) (Extended (Touching (Group (told (now (d .entry)))) b b) (Touching (Group (told (now (d .entry)))) a b)) u) ⌝ }
+    ensures { λ r. ⌜ Decides r (Paired (Closure (Side (GroupOf (now (d .entry))) a)) (Extended (Side (GroupOf (now (d .entry))) b) (Touching (GroupOf (now (d .entry))) a b)) u) ⌝ }
 {
     let united = hull(d, a, a, u);
     if united == 0 {
@@ -55,7 +54,7 @@ fn closed_with_one(d: &Description, a: u16, b: u16, u: u16) -> bool
 
 // Whether u is united of groups that meet a and of groups that meet b.
 fn both_closed(d: &Description, a: u16, b: u16, u: u16) -> bool
-    ensures { λ r. ⌜ Decides r (Paired (Closure (Touching (Group (told (now (d .entry)))) a a)) (Closure (Touching (Group (told (now (d .entry)))) b b)) u) ⌝ }
+    ensures { λ r. ⌜ Decides r (Paired (Closure (Side (GroupOf (now (d .entry))) a)) (Closure (Side (GroupOf (now (d .entry))) b)) u) ⌝ }
 {
     let left = hull(d, a, a, u);
     let right = hull(d, b, b, u);

@@ -12,10 +12,7 @@ pub(crate) fn refusal_of(positions: u8, x: u8, term: Term, scratch: usize) -> Op
     requires { ⌜ positions < 13 ⌝ }
     ensures { λ r. ⌜ r ≡ firstOf (bindTests positions x term scratch) ⌝ }
 {
-    if x >= positions
-        || is_reaching(positions, term.held)
-        || is_reaching(positions, term.repeated)
-    {
+    if x >= positions || exceeds(positions, term.held) || exceeds(positions, term.repeated) {
         return Some(Refusal::Position);
     }
     if is_ill(term) {
@@ -31,7 +28,7 @@ pub(crate) fn refusal_of(positions: u8, x: u8, term: Term, scratch: usize) -> Op
 }
 
 // Whether the mask has a position of n or more.
-fn is_reaching(n: u8, mask: u16) -> bool
+fn exceeds(n: u8, mask: u16) -> bool
     requires { ⌜ n < 16 ⌝ }
     ensures { λ r. ⌜ r ≡ reaches n mask ⌝ }
 {
