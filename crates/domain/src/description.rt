@@ -4,6 +4,7 @@ ghost use Rattle.domain.specs.Lawful.{Counted, FreeLinear, GroundLinear, FreeH
 
 mod ask;
 mod bind;
+mod groups;
 mod opening;
 mod read;
 
