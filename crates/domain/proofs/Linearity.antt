@@ -1,5 +1,5 @@
 -- Whether a term is free or linear: what the tests on masks decide.
-use mathlib.Core.Path.{_≡_, refl, sym, ap, _∙_, subst}
+use mathlib.Core.Path.{_≡_, sym, _∙_, subst}
 use mathlib.Core.Logic.{_⊎_, inl, inr, _≢_}
 use mathlib.Core.Bool.{Bool, true, false, not}
 use Prim.Native.Nat.{ℕ, _+_, _^_, _<_}
@@ -9,12 +9,12 @@ use Rattle.std.specs.Orderings.{Decides}
 use Rattle.std.proofs.shelf.Tests.{cases-bool, cases-eq, not-true, not-from-false, false≢true}
 use Rattle.std.proofs.shelf.Ways.{decides-like, not-from-decides}
 use Rattle.domain.specs.Masks.{In, Meets}
-use Rattle.domain.specs.Told.{Told, Group, Ground, Share}
+use Rattle.domain.specs.Told.{Told, Ground, Share}
 use Rattle.domain.specs.Binding.{FreeTerm, Once, LinearTerm}
 use Rattle.domain.specs.Reaching.{Reach}
 use Rattle.domain.specs.declared.term.Term.{Term}
 use Rattle.domain.proofs.Asking.{in-group, in-share}
-use Rattle.domain.proofs.Bits.{in-single, single-in, single-meets, meets-single, one-position, in-below}
+use Rattle.domain.proofs.Bits.{in-single, single-in, one-position, in-below}
 
 pub decides-free-term : (d : Told) (t : Term) (r : Bool) → t .bare ≡ true → ones (t .held) ≡ 1 → Decides r (Meets (t .held) (d .free)) → Decides r (FreeTerm d t)
 decides-free-term d t r bare single =

@@ -1,5 +1,5 @@
 // Whether a term is free, and whether it is linear.
-ghost use Prim.Native.Nat.{ℕ, _<_, _^_};
+ghost use Prim.Native.Nat.{_<_, _^_};
 ghost use Rattle.domain.specs.Binding.{FreeTerm, LinearTerm, Once};
 ghost use Rattle.domain.specs.Descriptions.{told};
 ghost use Rattle.domain.specs.Told.{Ground};

@@ -1,6 +1,5 @@
 -- The byte is shifted and its lowest digit compared, as the definition has it.
-use mathlib.Core.Path.{_≡_, sym}
-use mathlib.Core.Bool.{false}
+use mathlib.Core.Path.{sym}
 use native.Mathlib.Omega.{arith}
 use Rattle.domain.specs.Tables.{holdsBit}
 use Rattle.domain.proofs.Tables.{past-bit, low-digit}
