@@ -1,5 +1,5 @@
 -- What the reach of one position says of it: whether it is ground, and with which positions it shares.
-use mathlib.Core.Path.{_≡_, refl, sym}
+use mathlib.Core.Path.{_≡_, refl}
 use Prim.Native.Nat.{ℕ, zero, suc, _^_, _<_}
 use mathlib.Core.Bool.{Bool, true}
 use native.Mathlib.Omega.{arith}
@@ -8,11 +8,10 @@ use Rattle.std.specs.Orderings.{Decides}
 use Rattle.std.proofs.shelf.Tests.{eq-eqb, eqb-true}
 use Rattle.std.proofs.shelf.Ways.{decides-like}
 use Rattle.domain.specs.Masks.{In}
-use Rattle.domain.specs.Groups.{TGroup}
 use Rattle.domain.specs.Told.{Told, Group, Ground, Share}
 use Rattle.domain.specs.Binding.{InT}
 use Rattle.domain.specs.Reaching.{Reach}
-use Rattle.domain.proofs.Bits.{none-in, some-in, in-single, meets-single, single-meets}
+use Rattle.domain.proofs.Bits.{none-in, some-in, meets-single, single-meets}
 
 -- a group that holds p is one that meets the mask of p alone
 pub in-group : {d : Told} {p q g : ℕ} → Group d g → In p g → In q g → InT d (2 ^ p) q

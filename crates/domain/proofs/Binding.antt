@@ -1,7 +1,6 @@
 -- A bind from its parts, and that it keeps the rules.
-use mathlib.Core.Path.{_≡_, refl, sym, ap, _∙_, subst}
+use mathlib.Core.Path.{_≡_, refl, sym, subst}
 use mathlib.Core.Logic.{_⊎_, inl, inr}
-use mathlib.Core.Bool.{Bool, true, false}
 use mathlib.Core.List.{List}
 use Prim.Native.Nat.{ℕ, _^_, _<_, _≤_}
 use native.Mathlib.Omega.{arith}
@@ -12,8 +11,8 @@ use Rattle.std.specs.Orderings.{Decides}
 use Rattle.std.proofs.shelf.Ways.{not-from-decides, decides-at}
 use Rattle.domain.specs.Masks.{In, Meets}
 use Rattle.domain.specs.Told.{Told, Group, Ground, Lawful}
-use Rattle.domain.specs.Groups.{XGroup, TGroup, Rest, Paired}
-use Rattle.domain.specs.Binding.{FreePosition, FreeTerm, Fits, Made, NewGroup, InX, InT, StaysFree, StaysLinear, Bound}
+use Rattle.domain.specs.Groups.{XGroup, TGroup}
+use Rattle.domain.specs.Binding.{FreePosition, FreeTerm, Fits, NewGroup, StaysFree, StaysLinear, Bound}
 use Rattle.domain.specs.Binding.NewGroup.{rest, made}
 use Rattle.domain.specs.Signs.{Seen, Chosen}
 use Rattle.domain.specs.Tables.{holdsBit, toldOf}

@@ -1,12 +1,12 @@
 -- Masks digit by digit: unions, common parts, single positions, and their order as numbers.
-use mathlib.Core.Path.{_≡_, refl, sym, ap, _∙_, subst}
+use mathlib.Core.Path.{_≡_, refl, subst}
 use mathlib.Core.Logic.{_⊎_, inl, inr, _≢_}
-use Prim.Native.Nat.{ℕ, zero, suc, _+_, _-_, _*_, _/_, _%_, _^_, _≤_, _<_}
+use Prim.Native.Nat.{ℕ, zero, suc, _+_, _-_, _/_, _%_, _^_, _≤_, _<_}
 use native.Mathlib.Nat.{pow-suc, div-eq-of-lt, one-mul}
 use native.Mathlib.Omega.{arith}
 use native.Mathlib.Numerals.{one-add}
 use lib.Arith.{bin-ind}
-use lib.Bits.{bitAnd, bitOr, bitXor, and-shr, or-shr, xor-shr, and-step, or-step, xor-step, xor-add-and}
+use lib.Bits.{bitAnd, bitOr, bitXor, and-shr, or-shr, xor-shr, and-step, or-step, xor-add-and}
 use lib.Count.{ones, ones-step}
 use lib.Pow.{pow-mono, pow-pos, pow-lt, pow-add, shr-shr, shl-shr, ones-split, high}
 use Rattle.std.proofs.shelf.Tests.{cases-lt, cases-order}

@@ -1,15 +1,15 @@
 -- The test of each case decides whether u is made.
-use mathlib.Core.Path.{_≡_, refl, sym, ap, _∙_, subst}
+use mathlib.Core.Path.{_≡_, sym, _∙_}
 use mathlib.Core.Logic.{_⊎_, inl, inr}
-use mathlib.Core.Bool.{Bool, true, false}
+use mathlib.Core.Bool.{Bool, false}
 use Prim.Native.Nat.{ℕ, _^_, _<_}
 use native.Mathlib.Omega.{arith}
 use lib.Bits.{bitOr}
 use Rattle.std.specs.Orderings.{Decides}
 use Rattle.std.proofs.shelf.Tests.{false≢true}
 use Rattle.std.proofs.shelf.Ways.{decides-like}
-use Rattle.domain.specs.Masks.{In, Within, Meets}
-use Rattle.domain.specs.Groups.{XGroup, TGroup, Shared, Rest, Paired, Closure, Extended}
+use Rattle.domain.specs.Masks.{In, Meets}
+use Rattle.domain.specs.Groups.{Shared, Paired, Closure, Extended}
 use Rattle.domain.specs.Groups.Extended.{alone, joined}
 use Rattle.domain.specs.Binding.{Made, NewGroup}
 use Rattle.domain.specs.Binding.NewGroup.{rest, made}

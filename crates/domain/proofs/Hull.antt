@@ -1,15 +1,14 @@
 -- Closures inside a mask u, tested by the hull: u is a union of groups exactly where their hull in u is u.
-use mathlib.Core.Path.{_≡_, refl, sym, ap, _∙_, subst}
-use mathlib.Core.Logic.{_⊎_, inl, inr}
+use mathlib.Core.Path.{_≡_, refl, ap, _∙_, subst}
 use Prim.Native.Nat.{ℕ, zero, suc, _<_}
 use native.Mathlib.Omega.{arith}
 use lib.Bits.{bitOr}
-use Rattle.domain.specs.Masks.{In, Within}
+use Rattle.domain.specs.Masks.{Within}
 use Rattle.domain.specs.Groups.{Paired, Closure, Extended}
 use Rattle.domain.specs.Groups.Closure.{one, more}
 use Rattle.domain.specs.Groups.Extended.{alone, joined}
-use Rattle.domain.specs.Filling.{Hull, Fills, Filled, FillsWith, FilledBoth}
-use Rattle.domain.proofs.Bits.{in-either, within-le, within-self, within-trans, within-left, within-right, union-within, union-grows, same-mask, or-comm, or-assoc}
+use Rattle.domain.specs.Filling.{Hull, Filled, FilledBoth}
+use Rattle.domain.proofs.Bits.{within-le, within-self, within-trans, within-left, within-right, union-within, union-grows, same-mask, or-comm}
 
 -- A is part of B
 abbrev pub Sub : (ℕ → Type 0) → (ℕ → Type 0) → Type 0

@@ -3,12 +3,10 @@ use mathlib.Core.Path.{_≡_, refl}
 use mathlib.Core.Bool.{Bool, true, false, cond}
 use mathlib.Core.List.{List}
 use Prim.Native.Nat.{ℕ, _^_, _<_}
-use native.Mathlib.Omega.{arith}
 use lib.Dec.{ltb}
-use Rattle.std.proofs.shelf.Tests.{false≢true, ltb-true, cases-bool, lt-ltb, cond-true}
-use Rattle.domain.specs.Masks.{In}
+use Rattle.std.proofs.shelf.Tests.{false≢true, ltb-true, lt-ltb}
 use Rattle.domain.specs.Tables.{holdsBit, inRange, toldOf}
-use Rattle.domain.specs.Told.{Told, Group, Ground, Lawful}
+use Rattle.domain.specs.Told.{Group, Ground, Lawful}
 use Rattle.domain.specs.Lawful.{Counted, FreeLinear, GroundLinear, FreeHeld, Bare}
 use Rattle.domain.specs.Descriptions.{told}
 use Rattle.domain.specs.declared.description.Description.{Description}

@@ -1,19 +1,17 @@
 -- The groups that a bind makes: what lies in them, and the test of each case.
-use mathlib.Core.Path.{_≡_, refl, sym, ap, _∙_, subst}
-use mathlib.Core.Logic.{_⊎_, inl, inr}
-use Prim.Native.Nat.{ℕ, _^_, _<_}
-use native.Mathlib.Omega.{arith}
-use lib.Bits.{bitOr}
-use Rattle.domain.specs.Masks.{In, Within, Meets}
-use Rattle.domain.specs.Groups.{XGroup, TGroup, Shared, Rest, Paired, Closure, Extended}
+use mathlib.Core.Path.{sym, subst}
+use mathlib.Core.Logic.{inl, inr}
+use Prim.Native.Nat.{ℕ, _^_}
+use Rattle.domain.specs.Masks.{In, Meets}
+use Rattle.domain.specs.Groups.{XGroup, TGroup, Shared, Paired, Closure, Extended}
 use Rattle.domain.specs.Groups.Closure.{one, more}
 use Rattle.domain.specs.Groups.Extended.{alone, joined}
 use Rattle.domain.specs.Binding.{Made, NewGroup}
 use Rattle.domain.specs.Binding.NewGroup.{rest, made}
-use Rattle.domain.specs.Filling.{Touching, Hull, Filled, FilledBoth}
+use Rattle.domain.specs.Filling.{Touching}
 use Rattle.domain.specs.declared.case.Case.{Case}
 use Rattle.domain.specs.declared.case.Case.the-variants.{Free, BothLinear, PositionLinear, TermLinear, Neither}
-use Rattle.domain.proofs.Bits.{in-either, in-pos, within-self, meets-more, meets-single, single-meets}
+use Rattle.domain.proofs.Bits.{in-either, within-self, meets-more, meets-single, single-meets}
 use Rattle.domain.proofs.Hull.{Sub, Inside, inside-more, closure-some, pair-left, pair-right}
 
 -- where a position of a united group comes from

@@ -1,23 +1,20 @@
 -- What a bind leaves of the free and of the linear mask, and the positions that are ground after it.
-use mathlib.Core.Path.{_≡_, refl, sym}
-use mathlib.Core.Logic.{_⊎_, inl, inr}
-use mathlib.Core.Bool.{Bool, true, not}
+use mathlib.Core.Path.{_≡_, refl}
+use mathlib.Core.Bool.{true, not}
 use mathlib.Core.List.{List}
-use Prim.Native.Nat.{ℕ, _-_, _^_, _<_}
+use Prim.Native.Nat.{ℕ, _-_, _^_}
 use lib.Bits.{bitAnd}
-use Rattle.std.specs.Orderings.{Decides}
 use Rattle.std.proofs.shelf.Ways.{decides-not}
 use Rattle.domain.specs.Masks.{In}
 use Rattle.domain.specs.Leaving.{Without}
-use Rattle.domain.specs.Told.{Told, Group, Ground}
-use Rattle.domain.specs.Binding.{InX, InT, StaysFree, StaysLinear, FreeTerm, FreePosition, LinearTerm, LinearPosition}
+use Rattle.domain.specs.Told.{Told, Ground}
+use Rattle.domain.specs.Binding.{InX, InT, StaysFree, StaysLinear}
 use Rattle.domain.specs.Reaching.{Reach}
 use Rattle.domain.specs.Signs.{Seen}
 use Rattle.domain.specs.Tables.{toldOf}
 use Rattle.domain.specs.declared.rule.signs.Signs.{Signs}
 use Rattle.domain.specs.declared.term.Term.{Term}
-use Rattle.domain.proofs.Bits.{in-first, in-second, in-both, in-below, in-all, all-in, meets-single, single-meets}
-use Rattle.domain.proofs.Laws.{of-group}
+use Rattle.domain.proofs.Bits.{in-first, in-second, in-both, in-all, all-in, meets-single, single-meets}
 
 pub x-reached : {d : Told} {x p : ℕ} → InX d x p → InT d (2 ^ x) p
 x-reached i =

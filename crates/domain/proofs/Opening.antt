@@ -1,20 +1,18 @@
 -- The table of single positions, and the description that it makes.
 use mathlib.Core.Path.{_≡_, refl, sym, _∙_}
 use mathlib.Core.Logic.{_⊎_, inl, inr, _≢_}
-use mathlib.Core.Bool.{Bool, true, false}
+use mathlib.Core.Bool.{true, false}
 use mathlib.Core.List.{List}
 use Prim.Native.Nat.{ℕ, _+_, _-_, _/_, _%_, _^_, _<_, _≤_}
 use native.Mathlib.Nat.{div-eq-of-lt}
 use native.Mathlib.Omega.{arith}
-use lib.Dec.{eqb}
-use lib.ListN.{getD, replicate, getD-replicate, length-replicate}
+use lib.ListN.{replicate, getD-replicate, length-replicate}
 use lib.Pow.{pow-pos, pow-lt}
 use Rattle.std.specs.Orderings.{Decides}
 use Rattle.std.proofs.shelf.Tests.{cases-eq, cases-lt, ne-eqb, false≢true}
-use Rattle.domain.specs.Masks.{In}
 use Rattle.domain.specs.Opening.{New, Single}
 use Rattle.domain.specs.Tables.{holdsBit, toldOf}
-use Rattle.domain.specs.Told.{Told, Group, Lawful}
+use Rattle.domain.specs.Told.{Told, Lawful}
 use Rattle.domain.proofs.Bits.{in-all, all-in, in-single, below-lt}
 use Rattle.domain.proofs.Laws.{group-of, of-group}
 use Rattle.domain.proofs.Tables.{past-bit}

@@ -1,11 +1,11 @@
 -- The loop that unites all groups that meet a mask: its start, its turns, its end.
-use mathlib.Core.Path.{_≡_, refl, sym}
+use mathlib.Core.Path.{_≡_}
 use mathlib.Core.Logic.{_⊎_, inl, inr}
-use Prim.Native.Nat.{ℕ, _+_, _<_, _≤_}
+use Prim.Native.Nat.{ℕ, _+_, _<_}
 use native.Mathlib.Omega.{arith}
 use lib.Bits.{bitOr}
 use Rattle.std.proofs.shelf.Tests.{cases-eq}
-use Rattle.domain.specs.Masks.{In, Meets}
+use Rattle.domain.specs.Masks.{In}
 use Rattle.domain.specs.Groups.{TGroup}
 use Rattle.domain.specs.Told.{Told, Group}
 use Rattle.domain.specs.Binding.{InT}

@@ -1,12 +1,12 @@
 -- The walk over the subsets of a mask, from the mask itself downwards: after s comes the largest subset below s.
 use mathlib.Core.Path.{_≡_, refl, ap, subst}
 use mathlib.Core.Logic.{_⊎_, inl, inr}
-use Prim.Native.Nat.{ℕ, zero, suc, _+_, _-_, _*_, _/_, _%_, _<_, _≤_}
+use Prim.Native.Nat.{ℕ, zero, suc, _-_, _/_, _%_, _<_, _≤_}
 use native.Mathlib.Omega.{arith}
 use lib.Arith.{bin-ind}
 use lib.Bits.{bitAnd, bitOr, and-step}
 use Rattle.std.proofs.shelf.Tests.{cases-order}
-use Rattle.domain.specs.Masks.{In, Within}
+use Rattle.domain.specs.Masks.{Within}
 use Rattle.domain.specs.Groups.{Closure}
 use Rattle.domain.specs.Filling.{Hull, Touching}
 use Rattle.domain.proofs.Bits.{in-second, within-half, within-lowest, within-and, within-le, within-self, within-trans, within-left, within-right, union-within, nothing-within, or-comm, in-pos}

@@ -14,6 +14,7 @@ pub struct Description {
     table: [u8; 512],
     free: u16,
     linear: u16,
+    // between 1 and 12 positions; free positions are linear; ground ones are linear and never free
     ghost counted: { Counted positions },
     ghost bounded: { linear < 2 ^ positions },
     ghost freed: { FreeLinear free linear },

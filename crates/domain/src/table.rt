@@ -31,10 +31,19 @@ pub fn put(table: &mut [u8], g: u16, on: bool)
     ensures others { λ _. ⌜ ((h : ℕ) → h ≢ g → holdsBit (now (table .exit)) h ≡ holdsBit (now (table .entry)) h) ⌝ }
     ensures past { λ _. ⌜ (length (now (table .entry)) ≤ g / 8 → now (table .exit) ≡ now (table .entry)) ⌝ }
 {
-    let place = (g / 8) as usize;
-    if place < table.len() {
-        table[place] = with_bit(table[place], (g % 8) as u8, on);
+    if ((g / 8) as usize) < table.len() {
+        put_inside(table, g, on);
     }
+}
+
+// The same, where the table has the bit.
+fn put_inside(table: &mut [u8], g: u16, on: bool)
+    requires { ⌜ g / 8 < length (now table) ⌝ }
+    ensures at { λ _. ⌜ holdsBit (now (table .exit)) g ≡ on ⌝ }
+    ensures others { λ _. ⌜ ((h : ℕ) → h ≢ g → holdsBit (now (table .exit)) h ≡ holdsBit (now (table .entry)) h) ⌝ }
+{
+    let place = (g / 8) as usize;
+    table[place] = with_bit(table[place], (g % 8) as u8, on);
 }
 
 // The byte with one bit set to `on`.

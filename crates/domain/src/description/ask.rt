@@ -17,7 +17,7 @@ impl Description {
         if p >= self.positions {
             return Err(Refusal::Position);
         }
-        Ok(self.reach(mask::single(p)) == 0)
+        Ok(self.lacks(p))
     }
 
     pub fn is_free(&self, p: u8) -> Result<bool, Refusal>
@@ -45,6 +45,6 @@ impl Description {
         if p >= self.positions || q >= self.positions {
             return Err(Refusal::Position);
         }
-        Ok(mask::has(self.reach(mask::single(p)), q))
+        Ok(self.joins(p, q))
     }
 }

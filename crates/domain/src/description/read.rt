@@ -5,10 +5,8 @@ ghost use Rattle.domain.specs.Descriptions.{told};
 use super::Description;
 
 impl Description {
-    // The number of positions. Every description keeps the rules.
     pub fn positions(&self) -> u8
-        ensures count { λ r. ⌜ r ≡ told (now (self .entry)) .n ⌝ }
-        ensures lawful { λ r. ⌜ Lawful (told (now (self .entry))) ⌝ }
+        ensures { λ r. ⌜ r ≡ told (now (self .entry)) .n ⌝ }
     {
         self.positions
     }
@@ -24,4 +22,9 @@ impl Description {
     {
         self.linear
     }
+
+    // Every description keeps the rules. Nothing runs here: a caller learns it.
+    pub fn lawful(&self)
+        ensures { λ _. ⌜ Lawful (told (now (self .entry))) ⌝ }
+    {}
 }

@@ -1,5 +1,5 @@
 // Whether a term is free, and whether it is linear.
-ghost use Prim.Native.Nat.{ℕ, _<_, _^_};
+ghost use Prim.Native.Nat.{_<_, _^_};
 ghost use Rattle.domain.specs.Binding.{FreeTerm, LinearTerm, Once};
 ghost use Rattle.domain.specs.Descriptions.{told};
 ghost use Rattle.domain.specs.Told.{Ground};
@@ -40,7 +40,7 @@ fn is_linear_at(d: &Description, term: Term, p: u8) -> bool
     requires { ⌜ p < told (now d) .n ⌝ }
     ensures { λ r. ⌜ Decides r (Ground (told (now (d .entry))) p ⊎ Once (told (now (d .entry))) term p) ⌝ }
 {
-    d.reach(single(p)) == 0 || is_once(d, term, p)
+    d.lacks(p) || is_once(d, term, p)
 }
 
 // Whether the position is linear, held once, and shares with no other position of the term.

@@ -22,7 +22,8 @@ pub(crate) fn becomes_group(d: &Description, x: u8, held: u16, case: Case, u: u1
     match (has(u, x), meets(u, held)) {
         (true, true) => is_made(d, x, held, case, u),
         (false, false) => d.holds(u),
-        _ => false,
+        (true, false) => false,
+        (false, true) => false,
     }
 }
 

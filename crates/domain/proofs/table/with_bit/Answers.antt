@@ -1,5 +1,4 @@
-use mathlib.Core.Path.{_≡_, sym, _∙_}
-use lib.Bits.{bitAnd, bitOr, bitXor}
+use mathlib.Core.Path.{sym, _∙_}
 use Rattle.std.proofs.shelf.Bits.{one-shl}
 use Rattle.domain.proofs.Tables.{set-at, set-other, cleared-at, cleared-other}
 use Rattle.domain.proofs.table.with_bit.Needs as need

@@ -1,7 +1,4 @@
-use lib.Bits.{bitOr}
-use Rattle.domain.specs.Binding.{Bound}
 use Rattle.domain.specs.Descriptions.{told}
-use Rattle.domain.specs.Tables.{toldOf}
 use Rattle.domain.proofs.Binding.{bound-made, bound-lawful}
 use Rattle.domain.proofs.Laws.{carried, lawful}
 use Rattle.domain.proofs.description.bind.bound.Needs as need

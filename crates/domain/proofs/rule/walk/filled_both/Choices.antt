@@ -1,7 +1,7 @@
 use Rattle.domain.specs.Descriptions.{told}
-use Rattle.domain.specs.Filling.{Touching, Fills, FillsWith}
+use Rattle.domain.specs.Filling.{Touching, FillsWith}
 use Rattle.domain.specs.Told.{Group}
-use Rattle.domain.proofs.Walk.{HullAbove, NoneAbove}
+use Rattle.domain.proofs.Walk.{NoneAbove}
 use Rattle.domain.proofs.rule.walk.filled_both.Given as given
 
 abbrev pub Inv-loop-s : given.InvT-loop-s

@@ -1,7 +1,7 @@
 use Rattle.domain.specs.Descriptions.{told}
-use Rattle.domain.specs.Filling.{Touching, Fills, FillsWith}
+use Rattle.domain.specs.Filling.{Touching}
 use Rattle.domain.specs.Told.{Group}
-use Rattle.domain.proofs.Walk.{HullAbove, NoneAbove}
+use Rattle.domain.proofs.Walk.{HullAbove}
 use Rattle.domain.proofs.rule.walk.hull.Given as given
 
 abbrev pub Inv-loop-s : given.InvT-loop-s
