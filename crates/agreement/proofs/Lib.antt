@@ -1,0 +1,8 @@
+pub mod Agreeing
+pub mod Cores
+pub mod Calls
+pub mod Reckoned
+pub mod Rules
+pub mod ToldApart
+pub mod LeastLists
+pub mod Unique
