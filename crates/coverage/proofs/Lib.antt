@@ -21,3 +21,4 @@ pub mod DecidedTerms
 pub mod ExistsBind
 pub mod OneResult
 pub mod ExistsFit
+pub mod ListedCores

@@ -8,3 +8,4 @@ pub mod Rules
 pub mod Walks
 pub mod Counts
 pub mod Existence
+pub mod Listing

@@ -7,6 +7,7 @@ pub mod joining;
 pub mod keeping;
 pub mod least;
 pub mod likeness;
+pub mod listing;
 #[cfg(test)]
 mod tests;
 pub mod window;
