@@ -1,0 +1,12 @@
+pub mod Decided
+pub mod Cover
+pub mod CoreLeast
+pub mod BindCover
+pub mod Places
+pub mod BindAlike
+pub mod JoinCover
+pub mod ForgetCover
+pub mod Kept
+pub mod Submasks
+pub mod Verdicts
+pub mod Ranges

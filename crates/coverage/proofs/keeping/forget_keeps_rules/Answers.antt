@@ -1,0 +1,5 @@
+use Rattle.coverage.proofs.Kept.{forget-lawful}
+use Rattle.coverage.proofs.keeping.forget_keeps_rules.Needs as need
+
+pub returns : need.returns
+returns c = λ d e m l s f. forget-lawful l s f

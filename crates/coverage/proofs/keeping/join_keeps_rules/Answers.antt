@@ -1,0 +1,5 @@
+use Rattle.coverage.proofs.Kept.{join-lawful}
+use Rattle.coverage.proofs.keeping.join_keeps_rules.Needs as need
+
+pub returns : need.returns
+returns c = λ d e f n hs l k j. join-lawful l k j

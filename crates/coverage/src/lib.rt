@@ -1,0 +1,7 @@
+// The theory of coverage: what a set of groups covers, its core, and how the steps act on both.
+pub mod binding;
+pub mod forgetting;
+pub mod joining;
+pub mod keeping;
+pub mod least;
+pub mod window;
