@@ -1,8 +1,8 @@
 -- What a description refuses, as lists of tests in their order.
-use mathlib.Core.Bool.{Bool, not, _&&_, _||_}
+use mathlib.Core.Bool.{Bool, true, not, _&&_, _||_}
 use mathlib.Core.List.{List, [], _∷_}
-use Prim.Native.Nat.{ℕ, _^_}
-use lib.Bits.{bitAnd}
+use Prim.Native.Nat.{ℕ, _-_, _^_}
+use lib.Bits.{bitAnd, bitOr, bitXor}
 use lib.Count.{ones}
 use lib.Dec.{eqb, ltb, leb}
 use Rattle.std.specs.declared.option.Option.{Option}
@@ -12,7 +12,7 @@ use Rattle.std.specs.declared.result.Result.the-variants.{Ok, Err}
 use mathlib.Core.Path.{_≡_}
 use Rattle.domain.specs.Refusals.{Test}
 use Rattle.domain.specs.declared.refusal.Refusal.{Refusal}
-use Rattle.domain.specs.declared.refusal.Refusal.the-variants.{Count, Position, Marks, Itself, Room}
+use Rattle.domain.specs.declared.refusal.Refusal.the-variants.{Count, Position, Groups, Marks, Itself, Room}
 use Rattle.domain.specs.declared.term.Term.{Term}
 
 -- a mask has a position of n or more
@@ -53,3 +53,29 @@ abbrev pub Gives : {A : Type 0} → Option Refusal → Result A Refusal → (A �
 Gives (Some e) r P = r ≡ Err e
 Gives None (Ok a) P = P a
 Gives None (Err e) P = ⊥
+
+-- the groups of a list ascend above `last`, and are masks of n positions
+abbrev pub ascend : ℕ → ℕ → List ℕ → Bool
+ascend n last [] = true
+ascend n last (g ∷ gs) = ltb last g && (not (reaches n g) && ascend n g gs)
+
+-- all positions that the groups of a list hold
+abbrev pub heldBy : List ℕ → ℕ
+heldBy [] = 0
+heldBy (g ∷ gs) = bitOr g (heldBy gs)
+
+-- the marks are none that a description of n positions with these groups can have:
+-- they reach n, or break one of the three rules
+abbrev pub illMarks : ℕ → ℕ → ℕ → List ℕ → Bool
+illMarks n free linear hs =
+    (reaches n free || reaches n linear)
+    || not (contained free linear && (contained (bitXor (2 ^ n - 1) (heldBy hs)) linear && contained free (heldBy hs)))
+
+-- a join with the marks and the groups given, with so many bytes of scratch
+abbrev pub joinTests : ℕ → ℕ → ℕ → List ℕ → ℕ → List Test
+joinTests n free linear hs scratch =
+    (not (ascend n 0 hs), Groups) ∷ (illMarks n free linear hs, Marks) ∷ (ltb scratch 512, Room) ∷ []
+
+-- a forget of the positions of m
+abbrev pub forgetTests : ℕ → ℕ → ℕ → List Test
+forgetTests n m scratch = (reaches n m, Position) ∷ (ltb scratch 512, Room) ∷ []

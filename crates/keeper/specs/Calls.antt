@@ -1,24 +1,30 @@
 -- What each call of a keeper promises, over what the keeper tells before and after it.
 use mathlib.Core.Path.{_≡_}
-use mathlib.Core.Bool.{Bool, not, _||_}
-use mathlib.Core.List.{List, [], _∷_}
-use Prim.Native.Nat.{ℕ}
+use mathlib.Core.Bool.{Bool, true, false, not, _||_}
+use mathlib.Core.List.{List, [], _∷_, _++_}
+use mathlib.Core.Logic.{_⊎_}
+use Prim.Native.Nat.{ℕ, _≤_}
 use lib.Dec.{eqb, ltb}
+use lib.ListN.{length, drop}
 use Rattle.std.specs.Orderings.{Decides}
 use Rattle.std.specs.declared.option.Option.{Option}
 use Rattle.std.specs.declared.option.Option.the-variants.{Some, None}
 use Rattle.std.specs.declared.result.Result.{Result}
 use Rattle.std.specs.declared.result.Result.the-variants.{Ok, Err}
 use Rattle.domain.specs.Binding.{Bound}
-use Rattle.domain.specs.Coverage.{CoreFits}
+use Rattle.domain.specs.Coverage.{Core, CoreFits, Listed}
+use Rattle.domain.specs.Forgetting.{Forgotten}
+use Rattle.domain.specs.Joining.{Joined}
 use Rattle.domain.specs.Opening.{New}
 use Rattle.domain.specs.Refusals.{firstOf}
-use Rattle.domain.specs.Requests.{askTests, pairTests, bindTests}
+use Rattle.domain.specs.Requests.{askTests, pairTests, bindTests, joinTests, forgetTests}
 use Rattle.domain.specs.Told.{Told, Group}
 use Rattle.domain.specs.declared.refusal.Refusal.{Refusal}
 use Rattle.domain.specs.declared.refusal.Refusal.the-variants.{Order, Count, Room, Capacity}
 use Rattle.domain.specs.declared.term.Term.{Term}
+use Rattle.keeper.specs.Lists.{Ascending}
 use Rattle.keeper.specs.declared.fault.KeeperFault.{KeeperFault}
+use Rattle.keeper.specs.declared.keeper.WrittenOut.{WrittenOut}
 
 -- a keeper's fault, by its refusal
 abbrev pub faultOf : Refusal → KeeperFault
@@ -73,3 +79,38 @@ abbrev pub Binds : (Told → Told → Type 0) → ℕ → ℕ → Term → ℕ �
     → Result (Unit {0}) KeeperFault → Type 0
 Binds Left capacity x t scratch before after r =
     Changes (bindRefusal before x t scratch) capacity (Bound before x t) Left before after r
+
+-- Join leaves a description that answers to the union of the groups and the common marks.
+abbrev pub joinRefusal : Told → ℕ → ℕ → List ℕ → ℕ → Option Refusal
+joinRefusal d free linear hs scratch = firstOf ((not (opened d), Order) ∷ joinTests (d .n) free linear hs scratch)
+
+abbrev pub Joins : (Told → Told → Type 0) → ℕ → ℕ → ℕ → List ℕ → ℕ → Told → Told
+    → Result (Unit {0}) KeeperFault → Type 0
+Joins Left capacity free linear hs scratch before after r =
+    Changes (joinRefusal before free linear hs scratch) capacity (Joined before free linear hs) Left before after r
+
+-- Forget leaves a description that answers to the one in which the positions of the mask stand alone again.
+abbrev pub forgetRefusal : Told → ℕ → ℕ → Option Refusal
+forgetRefusal d m scratch = firstOf ((not (opened d), Order) ∷ forgetTests (d .n) m scratch)
+
+abbrev pub Forgets : (Told → Told → Type 0) → ℕ → ℕ → ℕ → Told → Told → Result (Unit {0}) KeeperFault → Type 0
+Forgets Left capacity m scratch before after r =
+    Changes (forgetRefusal before m scratch) capacity (Forgotten before m) Left before after r
+
+-- gs is the core of G: all its core groups and no others, ascending
+pub record CoreList (G : ℕ → Type 0) (gs : List ℕ) : Type 0 where
+  pub only : (g : ℕ) → Listed g gs → Core G g
+  pub all : (g : ℕ) → Core G g → Listed g gs
+  pub ascending : Ascending gs
+
+-- Write-out puts the core at the start of the list, whose other entries stay, and answers its count and the masks;
+-- it is refused, and the list stays, where there is no description or the core does not fit the list.
+abbrev pub Writes : Told → List ℕ → List ℕ → Result WrittenOut KeeperFault → Type 0
+Writes d list list′ (Ok w) =
+    (opened d ≡ true)
+    × (w .free ≡ d .free) × (w .linear ≡ d .linear)
+    × ((gs : List ℕ) × CoreList (Group d) gs × (w .count ≡ length gs) × (length gs ≤ length list) × (list′ ≡ gs ++ drop (length gs) list))
+Writes d list list′ (Err f) =
+    (list′ ≡ list)
+    × (((opened d ≡ false) × (f ≡ faultOf Order))
+       ⊎ ((opened d ≡ true) × (f ≡ faultOf Room) × (CoreFits (Group d) (length list) → ⊥)))

@@ -1,0 +1,4 @@
+pub mod Agreeing
+pub mod Cores
+pub mod Calls
+pub mod Reckoned
