@@ -3,9 +3,9 @@ use mathlib.Core.Path.{_≡_, refl, sym, _∙_, subst}
 use mathlib.Core.Logic.{_⊎_, inl, inr}
 use Prim.Native.Nat.{ℕ}
 use Rattle.domain.specs.Masks.{In, Within}
-use Rattle.domain.specs.Told.{Told, Group, Share, Ground}
-use Rattle.domain.specs.Coverage.{Covers, SameCover, Alike}
-use Rattle.domain.specs.Binding.{FreeTerm, Once, LinearTerm, FreePosition, LinearPosition, Fits, NewGroup, InX, InT, StaysFree, StaysLinear, Bound}
+use Rattle.domain.specs.Told.{Told, Group}
+use Rattle.domain.specs.Coverage.{SameCover, Alike}
+use Rattle.domain.specs.Binding.{FreeTerm, Once, LinearTerm, FreePosition, Fits, NewGroup, InX, InT, StaysFree, StaysLinear, Bound}
 use Rattle.domain.specs.declared.case.Case.{Case}
 use Rattle.domain.specs.declared.case.Case.the-variants.{Free, BothLinear, PositionLinear, TermLinear, Neither}
 use Rattle.domain.specs.declared.term.Term.{Term}
@@ -38,22 +38,25 @@ module _ {d e : Told} (a : Alike d e) where
       record {
         group = c .group;
         told = record { group = c .told; meets = record { place = m .place; left = c .left; right = m .right } };
-        holds = c .right }
+        holds = c .right;
+      }
 
 once-kept : {d e : Told} {t : Term} {p : ℕ} → Alike d e → Once d t p → Once e t p
 once-kept a o =
     record {
       linear = linear-in a (o .linear);
       single = o .single;
-      apart = λ q i ne s. o .apart q i ne (share-kept (same-turned (a .cover)) s) }
+      apart = λ q i ne s. o .apart q i ne (share-kept (same-turned (a .cover)) s);
+    }
 
 linear-term-kept : {d e : Told} {t : Term} → Alike d e → LinearTerm d t → LinearTerm e t
 linear-term-kept a l =
     record {
       each =
-        λ p i.
+          λ p i.
           elim (l .each p i)
-          [ inl g ↦ inl (ground-kept (a .positions) (a .cover) g) | inr o ↦ inr (once-kept a o) ] }
+          [ inl g ↦ inl (ground-kept (a .positions) (a .cover) g) | inr o ↦ inr (once-kept a o) ];
+    }
 
 fits-kept : {d e : Told} (x : ℕ) (t : Term) (c : Case) → Alike d e → Fits d x t c → Fits e x t c
 fits-kept x t Free a (inl f) = inl (free-in a f)
@@ -107,7 +110,8 @@ stays-free-kept a s =
     record {
       was = free-in a (s .was);
       outside-x = λ n k. s .outside-x (λ f. n (free-term-kept a f)) (in-x-kept b k);
-      outside-t = λ n k. s .outside-t (λ f. n (free-in a f)) (in-t-kept b k) }
+      outside-t = λ n k. s .outside-t (λ f. n (free-in a f)) (in-t-kept b k);
+    }
 
 stays-linear-kept : {d e : Told} {x : ℕ} {t : Term} {p : ℕ} → Alike d e → StaysLinear d x t p → StaysLinear e x t p
 stays-linear-kept a s =
@@ -116,7 +120,8 @@ stays-linear-kept a s =
       was = linear-in a (s .was);
       outside-both = λ k l. s .outside-both (in-x-kept b k) (in-t-kept b l);
       outside-x = λ n k. s .outside-x (λ f. n (linear-term-kept a f)) (in-x-kept b k);
-      outside-t = λ n k. s .outside-t (λ f. n (linear-in a f)) (in-t-kept b k) }
+      outside-t = λ n k. s .outside-t (λ f. n (linear-in a f)) (in-t-kept b k);
+    }
 
 module _ {d d′ e e′ : Told} {x : ℕ} {t : Term} (a : Alike d d′) (u : Bound d x t e) (v : Bound d′ x t e′) where
   same-case : u .case ≡ v .case
@@ -137,13 +142,14 @@ module _ {d d′ e e′ : Told} {x : ℕ} {t : Term} (a : Alike d d′) (u : Bou
   bound-linear =
       record {
         each =
-          λ p i.
-            elim (u .linear-only p i)
-            [ inl s ↦ v .linear-kept p (stays-linear-kept a s)
-            | inr m ↦
-              v .linear-added p
-              (elim m [ inl f ↦ inl (bound-free .each p f) | inr g ↦ inr (ground-kept bound-positions bound-cover g) ])
-            ] }
+            λ p i.
+            elim (u .linear-only p i) [
+              | inl s ↦ v .linear-kept p (stays-linear-kept a s)
+              | inr m ↦
+                  v .linear-added p
+                  (elim m [ inl f ↦ inl (bound-free .each p f) | inr g ↦ inr (ground-kept bound-positions bound-cover g) ])
+            ];
+      }
 
 pub bind-alike : {d d′ e e′ : Told} {x : ℕ} {t : Term} → Alike d d′ → Bound d x t e → Bound d′ x t e′ → Alike e e′
 bind-alike a u v =
@@ -152,4 +158,5 @@ bind-alike a u v =
       positions = bound-positions a u v;
       free = same-mask (bound-free a u v) (bound-free b v u);
       linear = same-mask (bound-linear a u v) (bound-linear b v u);
-      cover = bound-cover a u v }
+      cover = bound-cover a u v;
+    }

@@ -1,18 +1,21 @@
 -- The closed form of what the groups of a bind cover.
-use mathlib.Core.Path.{_≡_, refl, sym, subst}
-use mathlib.Core.Logic.{_⊎_, inl, inr, _↔_}
-use Prim.Native.Nat.{ℕ}
+use mathlib.Core.Path.{_≡_, refl, subst}
+use mathlib.Core.Logic.{_⊎_, inl, inr}
+use Prim.Native.Nat.{ℕ, _^_}
 use lib.Bits.{bitOr}
-use Rattle.domain.specs.Masks.{In, Within, Meets}
-use Rattle.domain.specs.Groups.{XGroup, TGroup, Shared, Rest, Paired, Closure, one, more, Extended, alone, joined}
+use Rattle.domain.specs.Masks.{In, Within}
+use Rattle.domain.specs.Groups.{XGroup, TGroup, Shared, Paired, Closure, one, more, Extended, alone, joined}
+use Rattle.domain.specs.Told.{Told, Group}
 use Rattle.domain.specs.Coverage.{Covers, SameCover}
-use Rattle.domain.specs.Binding.{Made, NewGroup, rest, made}
+use Rattle.domain.specs.Binding.{Made, NewGroup, rest, made, Bound}
+use Rattle.domain.specs.declared.term.Term.{Term}
 use Rattle.domain.specs.declared.case.Case.{Case}
 use Rattle.domain.specs.declared.case.Case.the-variants.{Free, BothLinear, PositionLinear, TermLinear, Neither}
+use Rattle.coverage.specs.Windows.{minus}
 use Rattle.coverage.specs.BindLaws.{Apart, WithTerm, TermCovered, UnitesX, UnitesT, Linked, before, across, back, by-x, by-t, BindCovers, untouched, met}
-use Rattle.domain.proofs.Bits.{in-either, in-left, in-right, union-within, within-left, within-right, within-self, within-trans}
+use Rattle.domain.proofs.Bits.{in-lacking, lacking-in, in-single, single-in, in-either, in-left, in-right, union-within, within-left, within-right, within-self, within-trans}
 use Rattle.coverage.proofs.Decided.{dec-in, dec-meets}
-use Rattle.coverage.proofs.Cover.{covers-own, covers-wider, covers-turned}
+use Rattle.coverage.proofs.Cover.{covers-own, covers-wider, covers-more}
 
 -- ---- wider windows
 
@@ -49,11 +52,12 @@ two-union g h a b =
       some-told = a .some-told;
       some-inside = within-trans (a .some-inside) (within-left g h);
       each =
-        λ p i.
-          elim (in-either g h i)
-          [ inl j ↦ covers-wider (within-left g h) (a .each p j)
-          | inr j ↦ covers-wider (within-right g h) (b .each p j)
-          ] }
+          λ p i.
+          elim (in-either g h i) [
+            | inl j ↦ covers-wider (within-left g h) (a .each p j)
+            | inr j ↦ covers-wider (within-right g h) (b .each p j)
+          ];
+    }
 
 pub closure-union : {A : ℕ → Type 0} {u : ℕ} → Closure A u → UnionOf A u
 closure-union (one a) = one-union a
@@ -66,9 +70,10 @@ union-more f a =
       some-told = f (a .some) (a .some-told);
       some-inside = a .some-inside;
       each =
-        λ p i.
+          λ p i.
           let k = a .each p i in
-          record { group = k .group; told = f (k .group) (k .told); left = k .left; right = k .right; inside = k .inside } }
+          record { group = k .group; told = f (k .group) (k .told); left = k .left; right = k .right; inside = k .inside };
+    }
 
 shared-x : {G : ℕ → Type 0} {x v : ℕ} (g : ℕ) → Shared G x v g → XGroup G x g
 shared-x g s = record { group = s .group; holds = s .holds }
@@ -89,7 +94,8 @@ x-some a =
       told = a .some-told .group;
       left = a .some-told .holds;
       right = a .some-told .holds;
-      inside = a .some-inside }
+      inside = a .some-inside;
+    }
 
 t-each : {G : ℕ → Type 0} {v u p : ℕ} → UnionOf (TGroup G v) u → In p u → WithTerm (Covers G) v u p
 t-each {p = p} a i =
@@ -98,7 +104,8 @@ t-each {p = p} a i =
     record {
       place = m .place;
       held = m .right;
-      covered = record { group = k .group; told = k .told .group; left = m .left; right = k .right; inside = k .inside } }
+      covered = record { group = k .group; told = k .told .group; left = m .left; right = k .right; inside = k .inside };
+    }
 
 t-some : {G : ℕ → Type 0} {v u : ℕ} → UnionOf (TGroup G v) u → TermCovered (Covers G) v u
 t-some a =
@@ -106,7 +113,8 @@ t-some a =
     record {
       place = m .place;
       held = m .right;
-      covered = record { group = a .some; told = a .some-told .group; left = m .left; right = m .left; inside = a .some-inside } }
+      covered = record { group = a .some; told = a .some-told .group; left = m .left; right = m .left; inside = a .some-inside };
+    }
 
 -- a side is a union of groups of A, and two positions of it are linked
 record Side (A G : ℕ → Type 0) (x v : ℕ) (c : Case) (u : ℕ) : Type 0 where
@@ -142,14 +150,19 @@ x-joined {G} {x} {v} {c} a s xa cs =
   where
     sx : UnionOf (XGroup G x) s
     sx = union-more shared-x (closure-union cs)
+
     st : UnionOf (TGroup G v) s
     st = union-more shared-t (closure-union cs)
+
     ax : {p : ℕ} → In p a → Covers G (bitOr a s) x p
     ax i = covers-wider (within-left a s) (x-each (one-union xa) i)
+
     sxp : {p : ℕ} → In p s → Covers G (bitOr a s) x p
     sxp i = covers-wider (within-right a s) (x-each sx i)
+
     stp : {p : ℕ} → In p s → WithTerm (Covers G) v (bitOr a s) p
     stp i = term-wider (within-right a s) (t-each st i)
+
     by : {p q : ℕ} → In p a ⊎ In p s → In q a ⊎ In q s → Linked (Covers G) x v c (bitOr a s) p q
     by (inl i) (inl j) = before (covers-wider (within-left a s) (covers-own (xa .group) i j))
     by (inl i) (inr j) = across (ax i) (stp j)
@@ -162,14 +175,19 @@ t-joined {G} {x} {v} {c} b s tb cs =
   where
     sx : UnionOf (XGroup G x) s
     sx = union-more shared-x (closure-union cs)
+
     st : UnionOf (TGroup G v) s
     st = union-more shared-t (closure-union cs)
+
     bt : {p : ℕ} → In p b → WithTerm (Covers G) v (bitOr b s) p
     bt i = term-wider (within-left b s) (t-each (one-union tb) i)
+
     sxp : {p : ℕ} → In p s → Covers G (bitOr b s) x p
     sxp i = covers-wider (within-right b s) (x-each sx i)
+
     stp : {p : ℕ} → In p s → WithTerm (Covers G) v (bitOr b s) p
     stp i = term-wider (within-right b s) (t-each st i)
+
     by : {p q : ℕ} → In p b ⊎ In p s → In q b ⊎ In q s → Linked (Covers G) x v c (bitOr b s) p q
     by (inl i) (inl j) = before (covers-wider (within-left b s) (covers-own (tb .group) i j))
     by (inl i) (inr j) = back (bt i) (sxp j)
@@ -201,7 +219,8 @@ sides f g k =
       right = k .right;
       x-side = f (k .left) (k .in-left);
       t-side = g (k .right) (k .in-right);
-      whole = k .whole }
+      whole = k .whole;
+    }
 
 made-sides : {G : ℕ → Type 0} {x v : ℕ} (c : Case) (u : ℕ) → Made G x v c u → Sides G x v c u
 made-sides Free u m = sides (λ l. x-alone) (λ r. t-alone) m
@@ -288,25 +307,26 @@ pair-covers {a = a} {b = b} c s t h k i j =
 module _ {G : ℕ → Type 0} {x v w : ℕ} (c : Case) (at-x : Covers G w x x) (at-t : TermCovered (Covers G) v w) where
   linked-covers : {p q : ℕ} → Linked (Covers G) x v c w p q → Covers (NewGroup G x v c) w p q
   linked-covers (before k) =
-      elim (dec-in x (k .group))
-      [ yes h ↦
-        pair-covers c (record { group = k .told; holds = h }) (t-group (at-t .covered) (at-t .held)) (k .inside)
-        (at-t .covered .inside)
-        (inl (k .left))
-        (inl (k .right))
-      | no n ↦
-        elim (dec-meets (k .group) v)
-        [ yes m ↦
-          pair-covers c (x-group at-x) (record { group = k .told; meets = m }) (at-x .inside) (k .inside) (inr (k .left))
-          (inr (k .right))
-        | no n′ ↦
-          record {
-            group = k .group;
-            told = rest (record { group = k .told; without = n; apart = n′ });
-            left = k .left;
-            right = k .right;
-            inside = k .inside }
-        ]
+      elim (dec-in x (k .group)) [
+        | yes h ↦
+            pair-covers c (record { group = k .told; holds = h }) (t-group (at-t .covered) (at-t .held)) (k .inside)
+            (at-t .covered .inside)
+            (inl (k .left))
+            (inl (k .right))
+        | no n ↦
+            elim (dec-meets (k .group) v) [
+              | yes m ↦
+                  pair-covers c (x-group at-x) (record { group = k .told; meets = m }) (at-x .inside) (k .inside) (inr (k .left))
+                  (inr (k .right))
+              | no n′ ↦
+                  record {
+                    group = k .group;
+                    told = rest (record { group = k .told; without = n; apart = n′ });
+                    left = k .left;
+                    right = k .right;
+                    inside = k .inside;
+                  }
+            ]
       ]
   linked-covers (across k t) =
       pair-covers c (x-group k) (t-group (t .covered) (t .held)) (k .inside) (t .covered .inside) (inl (k .right))
@@ -321,7 +341,8 @@ module _ {G : ℕ → Type 0} {x v w : ℕ} (c : Case) (at-x : Covers G w x x) (
         told = made (x-made c y (x-group k) (x-group l) (t-group b (at-t .held)));
         left = in-left (b .group) (in-left (l .group) (k .right));
         right = in-left (b .group) (in-right (k .group) (l .right));
-        inside = union-within (union-within (k .inside) (l .inside)) (b .inside) }
+        inside = union-within (union-within (k .inside) (l .inside)) (b .inside);
+      }
   linked-covers (by-t y s t) =
       let k = s .covered in
       let l = t .covered in
@@ -330,7 +351,8 @@ module _ {G : ℕ → Type 0} {x v w : ℕ} (c : Case) (at-x : Covers G w x x) (
         told = made (t-made c y (x-group at-x) (t-group k (s .held)) (t-group l (t .held)));
         left = in-right (at-x .group) (in-left (l .group) (k .right));
         right = in-right (at-x .group) (in-right (k .group) (l .right));
-        inside = union-within (at-x .inside) (union-within (k .inside) (l .inside)) }
+        inside = union-within (at-x .inside) (union-within (k .inside) (l .inside));
+      }
 
 rest-covers : {G : ℕ → Type 0} {x v : ℕ} {c : Case} {w p q : ℕ} → Apart (Covers G) x v w p q → Covers (NewGroup G x v c) w p q
 rest-covers a =
@@ -338,13 +360,15 @@ rest-covers a =
     record {
       group = k .group;
       told =
-        rest (record {
-          group = k .told;
-          without = λ i. a .without (k .inside .each _ i);
-          apart = λ m. a .apart (record { place = m .place; left = k .inside .each (m .place) (m .left); right = m .right }) });
+          rest (record {
+            group = k .told;
+            without = λ i. a .without (k .inside .each _ i);
+            apart = λ m. a .apart (record { place = m .place; left = k .inside .each (m .place) (m .left); right = m .right });
+          });
       left = k .left;
       right = k .right;
-      inside = within-trans (k .inside) (a .inside) }
+      inside = within-trans (k .inside) (a .inside);
+    }
 
 pub bind-cover-from : {G : ℕ → Type 0} {x v : ℕ} {c : Case} {w p q : ℕ} → BindCovers (Covers G) x v c w p q → Covers (NewGroup G x v c) w p q
 bind-cover-from (untouched a) = rest-covers a
@@ -373,4 +397,36 @@ pub bind-same : {G H : ℕ → Type 0} {x v : ℕ} {c : Case} → SameCover G H 
 bind-same s =
     record {
       to = λ w p q k. bind-cover-from (bind-covers-more (s .to) (bind-cover-to k));
-      from = λ w p q k. bind-cover-from (bind-covers-more (s .from) (bind-cover-to k)) }
+      from = λ w p q k. bind-cover-from (bind-covers-more (s .from) (bind-cover-to k));
+    }
+
+-- ---- what a bind makes
+
+pub bound-cover-to : {d e : Told} {x : ℕ} {t : Term} {w p q : ℕ} (b : Bound d x t e) → Covers (Group e) w p q → BindCovers (Covers (Group d)) x (t .held) (b .case) w p q
+bound-cover-to b k = bind-cover-to (covers-more (b .groups-only) k)
+
+pub bound-cover-from : {d e : Told} {x : ℕ} {t : Term} {w p q : ℕ} (b : Bound d x t e) → BindCovers (Covers (Group d)) x (t .held) (b .case) w p q → Covers (Group e) w p q
+bound-cover-from b k = covers-more (b .groups-made) (bind-cover-from k)
+
+-- ---- the window without x and the term
+
+pub apart-window : {G : ℕ → Type 0} {x v w p q : ℕ} → Apart (Covers G) x v w p q → Covers G (minus w (bitOr (2 ^ x) v)) p q
+apart-window {x = x} {v = v} {w = w} a = covers-wider (record { each = λ r i. in-lacking (a .inside .each r i) (out r i) }) (a .covered)
+  where
+    out : (r : ℕ) → In r (a .part) → In r (bitOr (2 ^ x) v) → ⊥
+    out r i j =
+        elim (in-either (2 ^ x) v j) [
+          | inl k ↦ a .without (subst (λ y. In y (a .part)) (single-in k) i)
+          | inr k ↦ a .apart (record { place = r; left = i; right = k })
+        ]
+
+pub window-apart : {G : ℕ → Type 0} {p q : ℕ} (x v w : ℕ) → Covers G (minus w (bitOr (2 ^ x) v)) p q → Apart (Covers G) x v w p q
+window-apart x v w k =
+    let u = bitOr (2 ^ x) v in
+    record {
+      part = minus w u;
+      inside = record { each = λ r i. lacking-in w u i .0 };
+      without = λ i. lacking-in w u i .1 (in-left v (in-single x));
+      apart = λ m. lacking-in w u (m .left) .1 (in-right (2 ^ x) (m .right));
+      covered = k;
+    }

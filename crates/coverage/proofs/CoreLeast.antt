@@ -1,8 +1,8 @@
 -- The core of a set: it covers the same pairs, and every set that does so holds it.
-use mathlib.Core.Path.{_≡_, refl, sym, subst}
-use mathlib.Core.Logic.{_⊎_, inl, inr, _≢_}
+use mathlib.Core.Path.{_≡_, sym, subst}
+use mathlib.Core.Logic.{_⊎_, inl, inr}
 use mathlib.Core.Bool.{true, Bool-discrete}
-use Prim.Native.Nat.{ℕ, zero, suc, _<_, _≤_}
+use Prim.Native.Nat.{ℕ, zero, suc, _<_}
 use native.Mathlib.Decide.{ℕ-discrete}
 use native.Mathlib.Omega.{arith}
 use Rattle.domain.specs.Masks.{In, Within}
@@ -10,7 +10,7 @@ use Rattle.domain.specs.Told.{Told, Group}
 use Rattle.domain.specs.Coverage.{Covers, SameCover, Alike, Core, CoreFits}
 use Rattle.domain.proofs.Bits.{within-le, same-mask, within-trans}
 use Rattle.coverage.proofs.Decided.{dec-in, dec-within}
-use Rattle.coverage.proofs.Cover.{covers-own, covers-wider, same-turned, same-trans, same-groups, alike-turned}
+use Rattle.coverage.proofs.Cover.{covers-own, same-turned, same-trans, same-groups}
 
 -- ---- the least number of which a test holds
 
@@ -23,14 +23,14 @@ module _ {P : ℕ → Type 0} (dec : (k : ℕ) → Dec (P k)) where
   scan : (n : ℕ) → Least P ⊎ ((k : ℕ) → k < n → P k → ⊥)
   scan zero = inr (λ k h p. omega arith)
   scan (suc n) =
-      elim (scan n)
-      [ inl l ↦ inl l
-      | inr none ↦
-        elim (dec n)
-        [ yes p ↦ inl (record { at = n; holds = p; first = none })
-        | no ¬p ↦
-          inr (λ k h p. elim (ℕ-discrete k n) [ yes e ↦ ¬p (subst P e p) | no ne ↦ none k (omega arith) p ])
-        ]
+      elim (scan n) [
+        | inl l ↦ inl l
+        | inr none ↦
+            elim (dec n) [
+              | yes p ↦ inl (record { at = n; holds = p; first = none })
+              | no ¬p ↦
+                  inr (λ k h p. elim (ℕ-discrete k n) [ yes e ↦ ¬p (subst P e p) | no ne ↦ none k (omega arith) p ])
+            ]
       ]
 
   least : (n : ℕ) → P n → Least P
@@ -47,19 +47,19 @@ record Fitting (G : ℕ → Type 0) (w p q g : ℕ) : Type 0 where
 
 dec-fitting : {G : ℕ → Type 0} → ((g : ℕ) → Dec (G g)) → (w p q g : ℕ) → Dec (Fitting G w p q g)
 dec-fitting dec w p q g =
-    elim (dec g)
-    [ no n ↦ no (λ f. n (f .told))
-    | yes t ↦
-      elim (dec-in p g)
-      [ no n ↦ no (λ f. n (f .left))
-      | yes i ↦
-        elim (dec-in q g)
-        [ no n ↦ no (λ f. n (f .right))
-        | yes j ↦
-          elim (dec-within g w)
-          [ no n ↦ no (λ f. n (f .inside)) | yes h ↦ yes (record { told = t; left = i; right = j; inside = h }) ]
-        ]
-      ]
+    elim (dec g) [
+      | no n ↦ no (λ f. n (f .told))
+      | yes t ↦
+          elim (dec-in p g) [
+            | no n ↦ no (λ f. n (f .left))
+            | yes i ↦
+                elim (dec-in q g) [
+                  | no n ↦ no (λ f. n (f .right))
+                  | yes j ↦
+                      elim (dec-within g w)
+                      [ no n ↦ no (λ f. n (f .inside)) | yes h ↦ yes (record { told = t; left = i; right = j; inside = h }) ]
+                ]
+          ]
     ]
 
 -- the least of them is a core group
@@ -72,9 +72,10 @@ least-core {p = p} {q = q} l =
       left = l .holds .left;
       right = l .holds .right;
       uncovered =
-        λ h t u ne i j.
+          λ h t u ne i j.
           l .first h (omega (arith, within-le u))
-          (record { told = t; left = i; right = j; inside = within-trans u (l .holds .inside) }) }
+          (record { told = t; left = i; right = j; inside = within-trans u (l .holds .inside) });
+    }
 
 pub core-covers : {G : ℕ → Type 0} {w p q : ℕ} → ((g : ℕ) → Dec (G g)) → Covers G w p q → Covers (Core G) w p q
 core-covers {G} {w} {p} {q} dec c =
@@ -95,9 +96,9 @@ module _ {G H : ℕ → Type 0} (s : SameCover G H) where
   back : {g : ℕ} (c : Core G g) (h : ℕ) → Within h g → Covers H h (c .p) (c .q) → g ≡ h
   back {g} c h u k =
       let b = s .from h (c .p) (c .q) k in
-      elim (ℕ-discrete (b .group) g)
-      [ yes e ↦ same-mask (subst (λ m. Within m h) e (b .inside)) u
-      | no ne ↦ absurd (c .uncovered (b .group) (b .told) (within-trans (b .inside) u) ne (b .left) (b .right))
+      elim (ℕ-discrete (b .group) g) [
+        | yes e ↦ same-mask (subst (λ m. Within m h) e (b .inside)) u
+        | no ne ↦ absurd (c .uncovered (b .group) (b .told) (within-trans (b .inside) u) ne (b .left) (b .right))
       ]
 
   pub core-held : {g : ℕ} → Core G g → H g
@@ -113,7 +114,8 @@ module _ {G H : ℕ → Type 0} (s : SameCover G H) where
         q = c .q;
         left = c .left;
         right = c .right;
-        uncovered = λ h t u ne i j. ne (sym (back c h u (covers-own t i j))) }
+        uncovered = λ h t u ne i j. ne (sym (back c h u (covers-own t i j)));
+      }
 
 -- ---- descriptions
 

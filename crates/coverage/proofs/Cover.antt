@@ -1,8 +1,8 @@
 -- Coverage by itself: wider windows, exchanged positions, and when two sets cover the same pairs.
-use mathlib.Core.Path.{_≡_, refl, sym}
+use mathlib.Core.Path.{refl, sym, _∙_}
 use Prim.Native.Nat.{ℕ}
 use Rattle.domain.specs.Masks.{In, Within}
-use Rattle.domain.specs.Told.{Told, Group, Share, Ground}
+use Rattle.domain.specs.Told.{Told}
 use Rattle.domain.specs.Coverage.{Covers, SameCover, Alike}
 use Rattle.domain.proofs.Bits.{within-self, within-trans}
 
@@ -41,3 +41,12 @@ alike-refl = record { positions = refl; free = refl; linear = refl; cover = same
 pub alike-turned : {d e : Told} → Alike d e → Alike e d
 alike-turned a =
     record { positions = sym (a .positions); free = sym (a .free); linear = sym (a .linear); cover = same-turned (a .cover) }
+
+pub alike-trans : {d e f : Told} → Alike d e → Alike e f → Alike d f
+alike-trans a b =
+    record {
+      positions = a .positions ∙ b .positions;
+      free = a .free ∙ b .free;
+      linear = a .linear ∙ b .linear;
+      cover = same-trans (a .cover) (b .cover);
+    }

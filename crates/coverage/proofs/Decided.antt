@@ -1,6 +1,6 @@
 -- Membership, inclusion and meeting of masks can be decided.
 use mathlib.Core.Logic.{inl, inr}
-use Prim.Native.Nat.{ℕ, _<_}
+use Prim.Native.Nat.{ℕ}
 use native.Mathlib.Decide.{decLt, ℕ-discrete}
 use lib.Bits.{bitAnd}
 use Rattle.domain.specs.Masks.{In, Within, Meets}

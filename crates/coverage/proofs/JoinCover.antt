@@ -1,11 +1,11 @@
 -- What a join covers, and that it takes alike descriptions to alike ones.
-use mathlib.Core.Path.{_≡_, sym, _∙_}
+use mathlib.Core.Path.{sym, _∙_}
 use mathlib.Core.Logic.{_⊎_, inl, inr}
 use mathlib.Core.List.{List}
 use Prim.Native.Nat.{ℕ}
-use Rattle.domain.specs.Masks.{In, Within}
+use Rattle.domain.specs.Masks.{Within}
 use Rattle.domain.specs.Told.{Told, Group}
-use Rattle.domain.specs.Coverage.{Covers, SameCover, Listed, Alike}
+use Rattle.domain.specs.Coverage.{Covers, Listed, Alike}
 use Rattle.domain.specs.Joining.{Joined}
 use Rattle.domain.proofs.Bits.{same-mask}
 use Rattle.coverage.proofs.Cover.{covers-more, alike-turned}
@@ -13,9 +13,9 @@ use Rattle.coverage.proofs.Cover.{covers-more, alike-turned}
 -- the union of two sets covers what one of them covers
 union-cover : {G A B : ℕ → Type 0} {w p q : ℕ} → ((g : ℕ) → G g → A g ⊎ B g) → Covers G w p q → Covers A w p q ⊎ Covers B w p q
 union-cover f k =
-    elim (f (k .group) (k .told))
-    [ inl a ↦ inl (record { group = k .group; told = a; left = k .left; right = k .right; inside = k .inside })
-    | inr b ↦ inr (record { group = k .group; told = b; left = k .left; right = k .right; inside = k .inside })
+    elim (f (k .group) (k .told)) [
+      | inl a ↦ inl (record { group = k .group; told = a; left = k .left; right = k .right; inside = k .inside })
+      | inr b ↦ inr (record { group = k .group; told = b; left = k .left; right = k .right; inside = k .inside })
     ]
 
 pub join-cover-to : {d e : Told} {free linear : ℕ} {hs : List ℕ} {w p q : ℕ} → Joined d free linear hs e → Covers (Group e) w p q → Covers (Group d) w p q ⊎ Covers (λ g. Listed g hs) w p q
@@ -45,4 +45,5 @@ join-alike a u v =
       positions = u .positions ∙ (a .positions ∙ sym (v .positions));
       free = same-mask (joined-free a u v) (joined-free b v u);
       linear = same-mask (joined-linear a u v) (joined-linear b v u);
-      cover = record { to = joined-cover a u v; from = joined-cover b v u } }
+      cover = record { to = joined-cover a u v; from = joined-cover b v u };
+    }

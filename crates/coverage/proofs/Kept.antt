@@ -1,27 +1,27 @@
 -- Every step keeps the rules of a description.
-use mathlib.Core.Path.{_≡_, refl, sym, _∙_, subst}
+use mathlib.Core.Path.{refl}
 use mathlib.Core.Logic.{_⊎_, inl, inr}
 use mathlib.Core.List.{List}
 use Prim.Native.Nat.{ℕ, _<_, _^_}
-use native.Mathlib.Omega.{arith}
 use lib.Pow.{pow-lt, pow-pos}
-use Rattle.domain.specs.Masks.{In, Within}
+use Rattle.domain.specs.Masks.{In}
 use Rattle.domain.specs.Told.{Told, Group, Ground, Lawful}
-use Rattle.domain.specs.Coverage.{Covers, Listed}
-use Rattle.domain.specs.Opening.{Single, New}
-use Rattle.domain.specs.Binding.{FreeTerm, NewGroup, rest, made, StaysFree, StaysLinear, Bound}
+use Rattle.domain.specs.Coverage.{Covers}
+use Rattle.domain.specs.Opening.{New}
+use Rattle.domain.specs.Binding.{NewGroup, rest, made, StaysFree, Bound}
 use Rattle.domain.specs.Groups.{XGroup, TGroup}
 use Rattle.domain.specs.Joining.{Joined}
 use Rattle.domain.specs.Forgetting.{Stripped, Renewed, Forgotten}
 use Rattle.domain.specs.declared.case.Case.{Case}
 use Rattle.domain.specs.declared.term.Term.{Term}
-use Rattle.coverage.specs.BindLaws.{WithTerm, Linked, before, across, back, by-x, by-t, BindCovers, untouched, met}
+use Rattle.coverage.specs.BindLaws.{Linked, before, across, back, by-x, by-t, BindCovers, untouched, met}
+use Rattle.coverage.specs.Windows.{minus}
 use Rattle.coverage.specs.Rules.{LawfulJoin}
 use Rattle.domain.proofs.Bits.{in-below, in-single, in-pos, below-lt, in-lacking, within-left, within-right}
 use Rattle.coverage.proofs.Decided.{dec-in, dec-meets}
 use Rattle.coverage.proofs.Cover.{covers-own}
 use Rattle.coverage.proofs.BindCover.{bind-cover-to, pair-covers, made-holds}
-use Rattle.coverage.proofs.ForgetCover.{stripped, renewed, minus}
+use Rattle.coverage.proofs.ForgetCover.{stripped, renewed}
 
 -- ---- one position
 
@@ -61,16 +61,17 @@ new-lawful {n} {e} some few k =
       some-positions = rw (k .positions) some;
       few-positions = rw (k .positions) few;
       in-range =
-        λ g t.
+          λ g t.
           let s = k .groups-only g t in
           (rw (s .only) (pow-pos (s .place)), rw (s .only, k .positions) (pow-lt (s .position)));
       linear-in-range = rw (k .positions) (below-lt (e .linear) n (k .linear-only));
       free-is-linear = λ p i. k .linear-made p (k .free-only p i);
       ground-is-linear = λ p g. k .linear-made p (rw (k .positions) at (g .position));
       free-is-not-ground =
-        λ p i g.
+          λ p i g.
           g .none (2 ^ p) (k .groups-made (2 ^ p) (record { place = p; position = k .free-only p i; only = refl }))
-          (in-single p) }
+          (in-single p);
+    }
 
 -- ---- bind
 
@@ -98,9 +99,9 @@ module _ {d e : Told} {x : ℕ} {t : Term} (l : Lawful d) (b : Bound d x t e) wh
 
   linear-place : (p : ℕ) → In p (e .linear) → p < d .n
   linear-place p i =
-      elim (b .linear-only p i)
-      [ inl s ↦ linear-lt l (s .was)
-      | inr m ↦ elim m [ inl f ↦ free-lt l (b .free-only p f .was) | inr g ↦ rw (b .positions) at (g .position) ]
+      elim (b .linear-only p i) [
+        | inl s ↦ linear-lt l (s .was)
+        | inr m ↦ elim m [ inl f ↦ free-lt l (b .free-only p f .was) | inr g ↦ rw (b .positions) at (g .position) ]
       ]
 
   -- an x-group and a t-group give a group of e around each of their positions
@@ -112,37 +113,39 @@ module _ {d e : Told} {x : ℕ} {t : Term} (l : Lawful d) (b : Bound d x t e) wh
   -- a position that stays free keeps a group, if it had one
   still-held : {p : ℕ} → StaysFree d x t p → Held (Group d) p → (Held (Group e) p → ⊥) → ⊥
   still-held {p} s h n =
-      elim (dec-in x (h .group))
-      [ yes i ↦
-        s .outside-x
-        (λ f.
-          free-held l (f .free)
-          (λ k.
+      elim (dec-in x (h .group)) [
+        | yes i ↦
+            s .outside-x
+            (λ f.
+            free-held l (f .free)
+            (λ k.
             n
             (united (record { group = h .told; holds = i })
             (record {
               group = k .told;
-              meets = record { place = f .place; left = k .holds; right = rw (f .only) (in-single (f .place)) } })
+              meets = record { place = f .place; left = k .holds; right = rw (f .only) (in-single (f .place)) };
+            })
             (inl (h .holds)))))
-        (record { group = h .group; told = record { group = h .told; holds = i }; holds = h .holds })
-      | no ni ↦
-        elim (dec-meets (h .group) (t .held))
-        [ yes m ↦
-          s .outside-t
-          (λ f.
-            free-held l f
-            (λ k.
-              n
-              (united (record { group = k .told; holds = k .holds }) (record { group = h .told; meets = m })
-              (inr (h .holds)))))
-          (record { group = h .group; told = record { group = h .told; meets = m }; holds = h .holds })
-        | no nm ↦
-          n
-          (record {
-            group = h .group;
-            told = b .groups-made (h .group) (rest (record { group = h .told; without = ni; apart = nm }));
-            holds = h .holds })
-        ]
+            (record { group = h .group; told = record { group = h .told; holds = i }; holds = h .holds })
+        | no ni ↦
+            elim (dec-meets (h .group) (t .held)) [
+              | yes m ↦
+                  s .outside-t
+                  (λ f.
+                  free-held l f
+                  (λ k.
+                  n
+                  (united (record { group = k .told; holds = k .holds }) (record { group = h .told; meets = m })
+                  (inr (h .holds)))))
+                  (record { group = h .group; told = record { group = h .told; meets = m }; holds = h .holds })
+              | no nm ↦
+                  n
+                  (record {
+                    group = h .group;
+                    told = b .groups-made (h .group) (rest (record { group = h .told; without = ni; apart = nm }));
+                    holds = h .holds;
+                  })
+            ]
       ]
 
   pub bind-lawful : Lawful e
@@ -155,9 +158,10 @@ module _ {d e : Told} {x : ℕ} {t : Term} (l : Lawful d) (b : Bound d x t e) wh
         free-is-linear = λ p i. b .linear-added p (inl i);
         ground-is-linear = λ p g. b .linear-added p (inr g);
         free-is-not-ground =
-          λ p i g.
+            λ p i g.
             let s = b .free-only p i in
-            free-held l (s .was) (λ h. still-held s h (λ k. g .none (k .group) (k .told) (k .holds))) }
+            free-held l (s .was) (λ h. still-held s h (λ k. g .none (k .group) (k .told) (k .holds)));
+      }
 
 -- ---- join
 
@@ -167,24 +171,26 @@ join-lawful {d} {e} {free} {linear} {hs} l k j =
       some-positions = rw (j .positions) (l .some-positions);
       few-positions = rw (j .positions) (l .few-positions);
       in-range =
-        λ g t.
+          λ g t.
           rw (j .positions) (elim (j .groups-only g t) [ inl h ↦ l .in-range g h | inr h ↦ k .in-range g h ]);
       linear-in-range = rw (j .positions) (below-lt (e .linear) (d .n) (λ p i. linear-lt l (j .linear-only p i .0)));
       free-is-linear =
-        λ p i.
+          λ p i.
           let h = j .free-only p i in
           j .linear-common p (l .free-is-linear p (h .0)) (k .free-is-linear p (h .1));
       ground-is-linear =
-        λ p g.
+          λ p g.
           j .linear-common p (l .ground-is-linear p (was g))
           (k .ground-is-linear p (rw (j .positions) at (g .position)) (λ h m. g .none h (j .groups-made h (inr m))));
-      free-is-not-ground = λ p i g. l .free-is-not-ground p (j .free-only p i .0) (was g) }
+      free-is-not-ground = λ p i g. l .free-is-not-ground p (j .free-only p i .0) (was g);
+    }
   where
     was : {p : ℕ} → Ground e p → Ground d p
     was g =
         record {
           position = rw (j .positions) at (g .position);
-          none = λ h t. g .none h (j .groups-made h (inl t)) }
+          none = λ h t. g .none h (j .groups-made h (inl t));
+        }
 
 -- ---- forget
 
@@ -195,33 +201,38 @@ forget-lawful {d} {e} {m} l small f =
       few-positions = rw (f .positions) (l .few-positions);
       in-range = λ g t. rw (f .positions) (elim (f .groups-only g t) [ inl s ↦ left-range g s | inr r ↦ new-range g r ]);
       linear-in-range =
-        rw (f .positions)
-        (below-lt (e .linear) (d .n)
-        (λ p i. elim (f .linear-only p i) [ inl h ↦ linear-lt l h | inr h ↦ in-below (d .n) h small ]));
+          rw (f .positions)
+          (below-lt (e .linear) (d .n)
+          (λ p i. elim (f .linear-only p i) [ inl h ↦ linear-lt l h | inr h ↦ in-below (d .n) h small ]));
       free-is-linear =
-        λ p i.
+          λ p i.
           f .linear-made p (elim (f .free-only p i) [ inl h ↦ inl (l .free-is-linear p h) | inr h ↦ inr h ]);
       ground-is-linear = λ p g. f .linear-made p (inl (l .ground-is-linear p (was g)));
       free-is-not-ground =
-        λ p i g.
+          λ p i g.
           elim (f .free-only p i)
-          [ inl h ↦ l .free-is-not-ground p h (was g) | inr h ↦ not-forgotten g h ] }
+          [ inl h ↦ l .free-is-not-ground p h (was g) | inr h ↦ not-forgotten g h ];
+    }
   where
     left-range : (g : ℕ) → Stripped d m g → (0 < g) × (g < 2 ^ d .n)
     left-range g s =
         (s .not-empty, below-lt g (d .n) (λ p i. in-below (d .n) (s .only p i .0) (l .in-range (s .group) (s .told) .1)))
+
     new-range : (g : ℕ) → Renewed m g → (0 < g) × (g < 2 ^ d .n)
     new-range g r =
         (rw (r .only) (pow-pos (r .place)), rw (r .only) (pow-lt (in-below (d .n) (r .forgotten) small)))
+
     not-forgotten : {p : ℕ} → Ground e p → In p m → ⊥
     not-forgotten {p} g i = g .none (2 ^ p) (f .groups-made (2 ^ p) (inr (renewed i))) (in-single p)
+
     was : {p : ℕ} → Ground e p → Ground d p
     was {p} g =
         record {
           position = rw (f .positions) at (g .position);
           none =
-            λ h t i.
-              elim (dec-in p m)
-              [ yes y ↦ not-forgotten g y
-              | no n ↦ g .none (minus h m) (f .groups-made (minus h m) (inl (stripped t i n))) (in-lacking i n)
-              ] }
+              λ h t i.
+              elim (dec-in p m) [
+                | yes y ↦ not-forgotten g y
+                | no n ↦ g .none (minus h m) (f .groups-made (minus h m) (inl (stripped t i n))) (in-lacking i n)
+              ];
+        }

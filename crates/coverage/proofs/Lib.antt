@@ -10,3 +10,5 @@ pub mod Kept
 pub mod Submasks
 pub mod Verdicts
 pub mod Ranges
+pub mod Pairs
+pub mod Counting

@@ -7,38 +7,30 @@ use Prim.Native.Nat.{ℕ, _/_, _^_, _≤_, _<_}
 use native.Mathlib.Decide.{decLt}
 use native.Mathlib.Nat.{div-eq-of-lt, le-div-iff-mul-le, lt-of-lt-of-le}
 use native.Mathlib.Omega.{arith}
-use lib.Bits.{bitAnd, and-mask}
 use lib.Dec.{eqb}
 use lib.Pow.{pow-pos, pow-mono}
 use Rattle.std.specs.Orderings.{Decides}
-use Rattle.std.proofs.shelf.Tests.{false≢true, eqb-true, eq-eqb, ne-eqb, lt-ltb, le-ltb}
-use Rattle.domain.specs.Masks.{In}
+use Rattle.std.proofs.shelf.Tests.{false≢true, eq-eqb, ne-eqb, lt-ltb, le-ltb}
 use Rattle.domain.specs.Told.{Group}
 use Rattle.domain.specs.Tables.{inRange, holdsBit, toldOf}
-
-pub decides-digit : (m p : ℕ) → Decides (eqb (bitAnd (m / 2 ^ p) 1) 1) (In p m)
-decides-digit m p =
-    ( λ e. record { digit = sym (and-mask (m / 2 ^ p) 1) ∙ eqb-true _ 1 e }
-    , λ i. eq-eqb _ 1 (and-mask (m / 2 ^ p) 1 ∙ i .digit) )
+use Rattle.domain.proofs.Laws.{range-in}
 
 pub range-zero : (n g : ℕ) → g ≡ 0 → false ≡ inRange n g
 unfolding inRange
 range-zero n g e = rw (e)
 
 pub range-wide : (n g : ℕ) → g ≢ 0 → g < 2 ^ 16 → 16 ≤ n → true ≡ inRange n g
-unfolding inRange
-range-wide n g e h w =
-    rw (lt-ltb 0 g (omega arith)) (sym (lt-ltb g (2 ^ n) (lt-of-lt-of-le h (pow-mono w))))
+range-wide n g e h w = sym (range-in n g (omega arith) (lt-of-lt-of-le h (pow-mono w)))
 
 pub range-narrow : (n g : ℕ) → g ≢ 0 → eqb (g / 2 ^ n) 0 ≡ inRange n g
 unfolding inRange
 range-narrow n g e =
     rw (lt-ltb 0 g (omega arith))
-    (elim (decLt g (2 ^ n))
-    [ yes h ↦ eq-eqb _ 0 (div-eq-of-lt h) ∙ sym (lt-ltb g (2 ^ n) h)
-    | no h ↦
-      ne-eqb _ 0 (λ z. high (omega arith) z)
-      ∙ sym (le-ltb g (2 ^ n) (omega arith))
+    (elim (decLt g (2 ^ n)) [
+      | yes h ↦ eq-eqb _ 0 (div-eq-of-lt h) ∙ sym (lt-ltb g (2 ^ n) h)
+      | no h ↦
+          ne-eqb _ 0 (λ z. high (omega arith) z)
+          ∙ sym (le-ltb g (2 ^ n) (omega arith))
     ])
   where
     high : 2 ^ n ≤ g → g / 2 ^ n ≡ 0 → ⊥

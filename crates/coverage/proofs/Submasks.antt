@@ -1,43 +1,14 @@
 -- The subsets of a mask, walked from the largest number down: after s comes (s - 1) & w.
-use mathlib.Core.Path.{_≡_, _∙_, ap, subst}
-use Prim.Native.Nat.{ℕ, _-_, _/_, _%_, _≤_, _<_}
-use native.Mathlib.Decide.{decLt, ℕ-discrete}
+use mathlib.Core.Path.{subst}
+use Prim.Native.Nat.{ℕ, _-_, _≤_, _<_}
+use native.Mathlib.Decide.{ℕ-discrete}
 use native.Mathlib.Omega.{arith}
-use lib.Arith.{bin-ind}
-use lib.Bits.{bitAnd, and-step, and-le-l}
-use Rattle.domain.specs.Masks.{In, Within}
+use lib.Bits.{bitAnd, and-le-l}
+use Rattle.domain.specs.Masks.{Within}
 use Rattle.domain.specs.Coverage.{Covers}
-use Rattle.domain.proofs.Bits.{within-and, in-second, within-le, within-half, within-lowest, in-pos}
+use Rattle.domain.proofs.Bits.{within-le, in-pos}
+use Rattle.domain.proofs.Walk.{next-subset, next-within}
 use Rattle.coverage.specs.Walks.{Holding, CoversTo}
-
--- s - 1 where s is odd: its last digit goes
-odd-step : (w t s : ℕ) → Within s w → 0 < s % 2 → t < s → t ≤ bitAnd (s - 1) w
-odd-step w t s v odd h =
-    let half : (s - 1) / 2 ≡ s / 2 = omega arith in
-    let same : bitAnd ((s - 1) / 2) (w / 2) ≡ s / 2 = ap (λ m. bitAnd m (w / 2)) half ∙ within-and (within-half v) in
-    omega (arith, and-step (s - 1) w)
-
--- s - 1 where s is even: its last digit comes, and the others go down by one
-even-step : (w t s : ℕ) → Within t w → (0 < s % 2 → ⊥) → t < s → t / 2 ≤ bitAnd (s / 2 - 1) (w / 2) → t ≤ bitAnd (s - 1) w
-even-step w t s u even h up =
-    let half : (s - 1) / 2 ≡ s / 2 - 1 = omega arith in
-    let last : (s - 1) % 2 ≡ 1 = omega arith in
-    let same : bitAnd ((s - 1) / 2) (w / 2) ≡ bitAnd (s / 2 - 1) (w / 2) = ap (λ m. bitAnd m (w / 2)) half in
-    omega (arith, and-step (s - 1) w, within-lowest u)
-
--- no subset of w lies between (s - 1) & w and s
-pub next-below : (w t s : ℕ) → Within t w → Within s w → t < s → t ≤ bitAnd (s - 1) w
-next-below =
-    bin-ind (λ w. (t s : ℕ) → Within t w → Within s w → t < s → t ≤ bitAnd (s - 1) w)
-    (λ t s u v h. absurd (omega (arith, within-le v)))
-    (λ w ih t s u v h.
-      elim (decLt 0 (s % 2))
-      [ yes odd ↦ odd-step w t s v odd h
-      | no even ↦ even-step w t s u even h (ih (t / 2) (s / 2) (within-half u) (within-half v) (omega arith))
-      ])
-
-pub next-within : (w s : ℕ) → Within (bitAnd (s - 1) w) w
-next-within w s = record { each = λ p i. in-second (s - 1) w i }
 
 pub next-lt : (w s : ℕ) → 0 < s → bitAnd (s - 1) w < s
 next-lt w s h = omega (arith, and-le-l (s - 1) w)
@@ -56,14 +27,15 @@ walk-start h = record { inside = h; below = omega arith; passed = λ h k u m. m 
 pub walk-on : {G : ℕ → Type 0} {w from p q s : ℕ} → 0 < s → (Holding G p q s → ⊥) → Walked G w from p q s → Walked G w from p q (bitAnd (s - 1) w)
 walk-on {G} {w} {from} {p} {q} {s} pos n k =
     record {
-      inside = next-within w s;
+      inside = next-within s w;
       below = omega (arith, next-lt w s pos, k .below);
       passed =
-        λ h t u m.
-          elim (ℕ-discrete h s)
-          [ yes e ↦ absurd (n (subst (Holding G p q) e t))
-          | no ne ↦ next-below w h s u (k .inside) (omega (arith, k .passed h t u m))
-          ] }
+          λ h t u m.
+          elim (ℕ-discrete h s) [
+            | yes e ↦ absurd (n (subst (Holding G p q) e t))
+            | no ne ↦ next-subset (k .inside) u (omega (arith, k .passed h t u m))
+          ];
+    }
 
 pub walk-found : {G : ℕ → Type 0} {w from p q s : ℕ} → Holding G p q s → Walked G w from p q s → CoversTo G w from p q
 walk-found {s = s} t k = record { group = s; holding = t; inside = k .inside; most = k .below }
@@ -83,4 +55,5 @@ within-covers c =
       group = c .group;
       holding = record { told = c .told; left = c .left; right = c .right };
       inside = c .inside;
-      most = within-le (c .inside) }
+      most = within-le (c .inside);
+    }

@@ -1,6 +1,6 @@
 -- Tests that decide a statement.
 use mathlib.Core.Path.{_≡_, refl, sym, _∙_}
-use mathlib.Core.Bool.{Bool, true, false}
+use mathlib.Core.Bool.{Bool, true, false, not}
 use Rattle.std.specs.Orderings.{Decides}
 use Rattle.std.proofs.shelf.Tests.{false≢true}
 
@@ -15,3 +15,7 @@ decides-map f g d = (λ e. f (d .0 e), λ x. d .1 (g x))
 
 pub decided-no : {b : Bool} {P : Type 0} → Decides b P → b ≡ false → P → ⊥
 decided-no d e x = false≢true (sym e ∙ d .1 x)
+
+pub decides-not : {P : Type 0} (b : Bool) → Decides b P → Decides (not b) (P → ⊥)
+decides-not true d = (λ e. absurd (false≢true e), λ n. absurd (n (d .0 refl)))
+decides-not false d = (λ e x. false≢true (d .1 x), λ n. refl)

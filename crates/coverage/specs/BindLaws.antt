@@ -1,7 +1,8 @@
 -- How a bind acts on coverage. C w p q stands for "the pair p, q is covered in the window w" before the bind:
 -- what is covered after it is said by C alone, whatever groups stand behind it.
 use mathlib.Core.Logic.{_↔_}
-use Prim.Native.Nat.{ℕ}
+use Prim.Native.Nat.{ℕ, _^_}
+use lib.Bits.{bitOr}
 use Rattle.domain.specs.Masks.{In, Within, Meets}
 use Rattle.domain.specs.Told.{Told, Group}
 use Rattle.domain.specs.Coverage.{Covers, Alike}
@@ -9,6 +10,7 @@ use Rattle.domain.specs.Binding.{NewGroup, Bound}
 use Rattle.domain.specs.declared.case.Case.{Case}
 use Rattle.domain.specs.declared.case.Case.the-variants.{Free, BothLinear, PositionLinear, TermLinear, Neither}
 use Rattle.domain.specs.declared.term.Term.{Term}
+use Rattle.coverage.specs.Windows.{minus}
 
 -- the pair is covered in a part of the window that has neither x nor a position of the term v
 pub record Apart (C : ℕ → ℕ → ℕ → Type 0) (x v w p q : ℕ) : Type 0 where
@@ -63,6 +65,18 @@ abbrev pub BindCoverage : Type 0
 BindCoverage =
     (d : Told) (x v : ℕ) (c : Case) (w p q : ℕ)
     → Covers (NewGroup (Group d) x v c) w p q ↔ BindCovers (Covers (Group d)) x v c w p q
+
+-- and so by what a bind makes
+abbrev pub BoundCoverage : Type 0
+BoundCoverage =
+    (d e : Told) (x : ℕ) (t : Term) (b : Bound d x t e) (w p q : ℕ)
+    → Covers (Group e) w p q ↔ BindCovers (Covers (Group d)) x (t .held) (b .case) w p q
+
+-- the part of a window that serves best is the window without x and the term
+abbrev pub RestWindow : Type 0
+RestWindow =
+    (d : Told) (x v w p q : ℕ)
+    → Apart (Covers (Group d)) x v w p q ↔ Covers (Group d) (minus w (bitOr (2 ^ x) v)) p q
 
 -- a bind takes alike descriptions to alike descriptions
 abbrev pub BindKeepsAlike : Type 0

@@ -1,6 +1,9 @@
+pub mod Windows
+pub mod Likeness
 pub mod CoreLaws
 pub mod BindLaws
 pub mod JoinLaws
 pub mod ForgetLaws
 pub mod Rules
 pub mod Walks
+pub mod Counts

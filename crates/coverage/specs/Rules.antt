@@ -1,5 +1,4 @@
 -- Every step keeps the rules of a description.
-use mathlib.Core.Path.{_≡_}
 use mathlib.Core.List.{List}
 use Prim.Native.Nat.{ℕ, _<_, _^_}
 use Rattle.domain.specs.Masks.{In}

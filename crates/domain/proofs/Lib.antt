@@ -5,3 +5,6 @@ pub mod Deciding
 pub mod Reaching
 pub mod Asking
 pub mod Opening
+pub mod Walk
+pub mod Hull
+pub mod Made

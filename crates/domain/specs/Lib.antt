@@ -9,6 +9,7 @@ pub mod Coverage
 pub mod Tables
 pub mod Refusals
 pub mod Requests
+pub mod Filling
 pub mod Reaching
 pub mod Lawful
 pub mod Descriptions

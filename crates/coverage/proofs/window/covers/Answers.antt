@@ -10,5 +10,5 @@ covers-to-requires c κs = within-self (c .args .window)
 pub returns : need.returns
 returns c =
     λ f l.
-      decides-map (λ k. covers-more (λ g t. record { told = t .told }) (covers-within k)) (λ k. within-covers (covers-more (λ g t. record { told = t .told }) k))
-      (c .covers-to .ensures)
+    decides-map (λ k. covers-more (λ g t. record { told = t .told }) (covers-within k)) (λ k. within-covers (covers-more (λ g t. record { told = t .told }) k))
+    (c .covers-to .ensures)

@@ -1,4 +1,3 @@
-use native.Mathlib.Omega.{arith}
 use Rattle.coverage.proofs.Verdicts.{decides-yes, decides-no, decided-no}
 use Rattle.coverage.proofs.Submasks.{next-lt, walk-start, walk-on, walk-found, walk-none}
 use Rattle.coverage.proofs.window.covers_to.Needs as need

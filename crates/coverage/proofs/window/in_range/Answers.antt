@@ -1,4 +1,3 @@
-use native.Mathlib.Omega.{arith}
 use Rattle.coverage.proofs.Ranges.{range-zero, range-wide, range-narrow}
 use Rattle.coverage.proofs.window.in_range.Needs as need
 

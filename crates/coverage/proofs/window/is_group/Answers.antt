@@ -9,4 +9,4 @@ returns-then-not-in-range c =
 pub returns : need.returns
 returns c =
     λ f l.
-      group-in (c .args .n) (c .args .table .now) f l (c .args .g) (c .if-not-in-range .ensures tt) (c .holds .ensures)
+    group-in (c .args .n) (c .args .table .now) f l (c .args .g) (c .if-not-in-range .ensures tt) (c .holds .ensures)

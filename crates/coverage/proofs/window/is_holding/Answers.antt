@@ -13,9 +13,10 @@ pub returns : need.returns
 returns c =
     decides-map
     (λ i.
-      record {
-        told = c .is-group .ensures 0 0 .0 (c .if-not-is-group .left);
-        left = c .is-in .ensures .0 (c .if-not-is-in .left);
-        right = i })
+    record {
+      told = c .is-group .ensures 0 0 .0 (c .if-not-is-group .left);
+      left = c .is-in .ensures .0 (c .if-not-is-in .left);
+      right = i;
+    })
     (λ h. h .right)
     (c .is-in-2 .ensures)
