@@ -18,7 +18,7 @@ use Rattle.coverage.proofs.Cover.{alike-turned, same-turned}
 use Rattle.coverage.proofs.ForgetCover.{forget-alike}
 use Rattle.coverage.proofs.JoinCover.{join-alike}
 use Rattle.coverage.proofs.Places.{share-kept, ground-kept}
-use Rattle.domain.specs.Coverage.{Alike, CoreFits}
+use Rattle.domain.specs.Coverage.{Alike, CoreFits, CoreList}
 use Rattle.domain.specs.Binding.{Bound}
 use Rattle.domain.specs.Forgetting.{Forgotten}
 use Rattle.domain.specs.Joining.{Joined}
@@ -28,7 +28,7 @@ use Rattle.domain.specs.Requests.{bindTests, joinTests, forgetTests, askTests, 
 use Rattle.domain.specs.Told.{Told, Group, Ground, Share}
 use Rattle.domain.specs.declared.refusal.Refusal.{Refusal}
 use Rattle.domain.specs.declared.refusal.Refusal.the-variants.{Order, Capacity}
-use Rattle.keeper.specs.Calls.{Changes, Answers, Writes, CoreList, opened, faultOf, bindRefusal, joinRefusal, forgetRefusal, askRefusal, pairRefusal}
+use Rattle.keeper.specs.Calls.{Changes, Answers, Writes, opened, faultOf, bindRefusal, joinRefusal, forgetRefusal, askRefusal, pairRefusal}
 use Rattle.keeper.specs.declared.fault.KeeperFault.{KeeperFault}
 use Rattle.keeper.specs.declared.keeper.WrittenOut.{WrittenOut}
 use Rattle.agreement.proofs.Agreeing.{changes-agree, changes-same, answers-agree, alike-ends, alike-trans}

@@ -6,8 +6,8 @@ use Prim.Native.Nat.{ℕ, _≤_, _<_}
 use native.Mathlib.Omega.{arith}
 use Rattle.domain.specs.Coverage.{Listed, here, there, Core, Alike}
 use Rattle.domain.specs.Told.{Told, Group}
-use Rattle.keeper.specs.Calls.{CoreList}
-use Rattle.keeper.specs.Lists.{Above, none, next, Ascending}
+use Rattle.domain.specs.Coverage.{CoreList}
+use Rattle.domain.specs.Lists.{Above, none, next, Ascending}
 use Rattle.coverage.proofs.CoreLeast.{core-kept}
 use Rattle.coverage.proofs.CoreLeast as least
 

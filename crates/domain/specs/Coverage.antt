@@ -4,6 +4,7 @@ use mathlib.Core.Logic.{_≢_}
 use mathlib.Core.List.{List, _∷_}
 use Prim.Native.Nat.{ℕ, _≤_}
 use lib.ListN.{length}
+use Rattle.domain.specs.Lists.{Ascending}
 use Rattle.domain.specs.Masks.{In, Within}
 use Rattle.domain.specs.Told.{Told, Group}
 
@@ -47,3 +48,9 @@ pub record CoreFits (G : ℕ → Type 0) (k : ℕ) : Type 0 where
   pub groups : List ℕ
   pub short : length groups ≤ k
   pub holds : (g : ℕ) → Core G g → Listed g groups
+
+-- gs is the core of G: all its core groups and no others, ascending
+pub record CoreList (G : ℕ → Type 0) (gs : List ℕ) : Type 0 where
+  pub only : (g : ℕ) → Listed g gs → Core G g
+  pub all : (g : ℕ) → Core G g → Listed g gs
+  pub ascending : Ascending gs

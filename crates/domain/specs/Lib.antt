@@ -5,6 +5,7 @@ pub mod Opening
 pub mod Binding
 pub mod Joining
 pub mod Forgetting
+pub mod Lists
 pub mod Coverage
 pub mod Tables
 pub mod Refusals

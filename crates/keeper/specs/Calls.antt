@@ -12,7 +12,7 @@ use Rattle.std.specs.declared.option.Option.the-variants.{Some, None}
 use Rattle.std.specs.declared.result.Result.{Result}
 use Rattle.std.specs.declared.result.Result.the-variants.{Ok, Err}
 use Rattle.domain.specs.Binding.{Bound}
-use Rattle.domain.specs.Coverage.{Core, CoreFits, Listed}
+use Rattle.domain.specs.Coverage.{CoreFits, CoreList}
 use Rattle.domain.specs.Forgetting.{Forgotten}
 use Rattle.domain.specs.Joining.{Joined}
 use Rattle.domain.specs.Opening.{New}
@@ -22,7 +22,6 @@ use Rattle.domain.specs.Told.{Told, Group}
 use Rattle.domain.specs.declared.refusal.Refusal.{Refusal}
 use Rattle.domain.specs.declared.refusal.Refusal.the-variants.{Order, Count, Room, Capacity}
 use Rattle.domain.specs.declared.term.Term.{Term}
-use Rattle.keeper.specs.Lists.{Ascending}
 use Rattle.keeper.specs.declared.fault.KeeperFault.{KeeperFault}
 use Rattle.keeper.specs.declared.keeper.WrittenOut.{WrittenOut}
 
@@ -96,12 +95,6 @@ forgetRefusal d m scratch = firstOf ((not (opened d), Order) ∷ forgetTests (d 
 abbrev pub Forgets : (Told → Told → Type 0) → ℕ → ℕ → ℕ → Told → Told → Result (Unit {0}) KeeperFault → Type 0
 Forgets Left capacity m scratch before after r =
     Changes (forgetRefusal before m scratch) capacity (Forgotten before m) Left before after r
-
--- gs is the core of G: all its core groups and no others, ascending
-pub record CoreList (G : ℕ → Type 0) (gs : List ℕ) : Type 0 where
-  pub only : (g : ℕ) → Listed g gs → Core G g
-  pub all : (g : ℕ) → Core G g → Listed g gs
-  pub ascending : Ascending gs
 
 -- Write-out puts the core at the start of the list, whose other entries stay, and answers its count and the masks;
 -- it is refused, and the list stays, where there is no description or the core does not fit the list.
