@@ -1,7 +1,7 @@
 -- The reckoned description: what the rules make of a list of calls, whatever the build.
 use mathlib.Core.Path.{_≡_}
 use mathlib.Core.List.{List, [], _∷_}
-use Prim.Native.Nat.{ℕ}
+use Prim.Native.Nat.{ℕ, _<_}
 use Rattle.std.specs.declared.option.Option.{Option}
 use Rattle.std.specs.declared.option.Option.the-variants.{Some, None}
 use Rattle.domain.specs.Binding.{Bound}
@@ -37,8 +37,13 @@ pub data ReckonsAll (capacity : ℕ) : List Call → Told → Told → Type 0 wh
   done : {d : Told} → ReckonsAll capacity [] d d
   calls : {c : Call} {cs : List Call} {d e z : Told} → Reckons capacity c d e → ReckonsAll capacity cs e z → ReckonsAll capacity (c ∷ cs) d z
 
+-- an open of n positions is accepted where n is from 1 to 12
+abbrev pub Opened : ℕ → Type 0
+Opened n = (0 < n) × (n < 13)
+
 -- d is reckoned from n, the capacity and the calls alone: it starts new
 pub record Reckoned (n capacity : ℕ) (cs : List Call) (d : Told) : Type 0 where
+  pub opened : Opened n
   pub start : Told
   pub new : New n start
   pub reckons : ReckonsAll capacity cs start d

@@ -59,6 +59,10 @@ abbrev pub ascend : ℕ → ℕ → List ℕ → Bool
 ascend n last [] = true
 ascend n last (g ∷ gs) = ltb last g && (not (reaches n g) && ascend n g gs)
 
+-- the positions of a that are not in b
+abbrev pub without : ℕ → ℕ → ℕ
+without a b = bitXor a (bitAnd a b)
+
 -- all positions that the groups of a list hold
 abbrev pub heldBy : List ℕ → ℕ
 heldBy [] = 0
@@ -69,7 +73,7 @@ heldBy (g ∷ gs) = bitOr g (heldBy gs)
 abbrev pub illMarks : ℕ → ℕ → ℕ → List ℕ → Bool
 illMarks n free linear hs =
     (reaches n free || reaches n linear)
-    || not (contained free linear && (contained (bitXor (2 ^ n - 1) (heldBy hs)) linear && contained free (heldBy hs)))
+    || not (contained free linear && (contained (without (2 ^ n - 1) (heldBy hs)) linear && contained free (heldBy hs)))
 
 -- a join with the marks and the groups given, with so many bytes of scratch
 abbrev pub joinTests : ℕ → ℕ → ℕ → List ℕ → ℕ → List Test
