@@ -1,0 +1,22 @@
+// Every rule makes some description, and every core has a list. Each function here says a law and does nothing.
+ghost use Rattle.coverage.specs.Existence.{CoreHasList, NewExists, JoinExists, ForgetExists};
+
+// The core groups of a description that keeps the rules stand in some ascending list.
+pub fn a_core_has_a_list()
+    ensures { λ _. ⌜ CoreHasList ⌝ }
+{}
+
+// There is a new description of any number of positions.
+pub fn there_is_a_new_description()
+    ensures { λ _. ⌜ NewExists ⌝ }
+{}
+
+// A join of any description with any marks and groups has a result.
+pub fn a_join_has_a_result()
+    ensures { λ _. ⌜ JoinExists ⌝ }
+{}
+
+// A forget of any positions has a result.
+pub fn a_forget_has_a_result()
+    ensures { λ _. ⌜ ForgetExists ⌝ }
+{}
