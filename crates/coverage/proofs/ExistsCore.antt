@@ -42,6 +42,7 @@ module _ {G : ℕ → Type 0} (dec : (g : ℕ) → Dec (G g)) where
 
 pub core-listed : (d : Told) → Lawful d → (gs : List ℕ) × CoreList (Group d) gs
 core-listed d l =
-    let r = numbers (dec-core (dec-group d)) (2 ^ d .n) (λ g c. l .in-range g (c .told) .1) 0 in
-    (r .list,
-    record { only = r .only; all = λ g c. r .all g (l .in-range g (c .told) .0) c; ascending = r .above })
+    let r = numbers (dec-core (dec-group d)) (2 ^ d .n) (λ g c. l .in-range g (c .told) .1) 0 in (
+      r .list,
+      record { only = r .only; all = λ g c. r .all g (l .in-range g (c .told) .0) c; ascending = r .above },
+    )

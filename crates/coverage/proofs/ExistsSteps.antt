@@ -30,17 +30,18 @@ dec-single n g =
 
 pub new-made : (n : ℕ) → (e : Told) × New n e
 new-made n =
-    let t = tested (dec-single n) in
-    (record { n = n; groups = t .test; free = 2 ^ n - 1; linear = 2 ^ n - 1 },
-    record {
-      positions = refl;
-      groups-made = λ g s. record { told = t .all g s };
-      groups-only = λ g k. t .only g (k .told);
-      free-made = λ p h. in-all p n h;
-      free-only = λ p i. all-in p n i;
-      linear-made = λ p h. in-all p n h;
-      linear-only = λ p i. all-in p n i;
-    })
+    let t = tested (dec-single n) in (
+      record { n = n; groups = t .test; free = 2 ^ n - 1; linear = 2 ^ n - 1 },
+      record {
+        positions = refl;
+        groups-made = λ g s. record { told = t .all g s };
+        groups-only = λ g k. t .only g (k .told);
+        free-made = λ p h. in-all p n h;
+        free-only = λ p i. all-in p n i;
+        linear-made = λ p h. in-all p n h;
+        linear-only = λ p i. all-in p n i;
+      },
+    )
 
 -- ---- join
 
@@ -52,17 +53,18 @@ dec-listed g (h ∷ hs) =
 
 pub join-made : (d : Told) (free linear : ℕ) (hs : List ℕ) → (e : Told) × Joined d free linear hs e
 join-made d free linear hs =
-    let t : Tested (λ g. Group d g ⊎ Listed g hs) = tested (λ g. dec-either (dec-group d g) (dec-listed g hs)) in
-    (record { n = d .n; groups = t .test; free = bitAnd (d .free) free; linear = bitAnd (d .linear) linear },
-    record {
-      positions = refl;
-      groups-made = λ g s. record { told = t .all g s };
-      groups-only = λ g k. t .only g (k .told);
-      free-common = λ p i j. in-both i j;
-      free-only = λ p i. (in-first (d .free) free i, in-second (d .free) free i);
-      linear-common = λ p i j. in-both i j;
-      linear-only = λ p i. (in-first (d .linear) linear i, in-second (d .linear) linear i);
-    })
+    let t : Tested (λ g. Group d g ⊎ Listed g hs) = tested (λ g. dec-either (dec-group d g) (dec-listed g hs)) in (
+      record { n = d .n; groups = t .test; free = bitAnd (d .free) free; linear = bitAnd (d .linear) linear },
+      record {
+        positions = refl;
+        groups-made = λ g s. record { told = t .all g s };
+        groups-only = λ g k. t .only g (k .told);
+        free-common = λ p i j. in-both i j;
+        free-only = λ p i. (in-first (d .free) free i, in-second (d .free) free i);
+        linear-common = λ p i j. in-both i j;
+        linear-only = λ p i. (in-first (d .linear) linear i, in-second (d .linear) linear i);
+      },
+    )
 
 -- ---- forget
 
@@ -110,14 +112,15 @@ in-sum a b (inr i) = in-right a i
 
 pub forget-made : (d : Told) (m : ℕ) → (e : Told) × Forgotten d m e
 forget-made d m =
-    let t : Tested (λ g. Stripped d m g ⊎ Renewed m g) = tested (λ g. dec-either (dec-stripped d m g) (dec-renewed m g)) in
-    (record { n = d .n; groups = t .test; free = bitOr (d .free) m; linear = bitOr (d .linear) m },
-    record {
-      positions = refl;
-      groups-made = λ g s. record { told = t .all g s };
-      groups-only = λ g k. t .only g (k .told);
-      free-made = λ p s. in-sum (d .free) m s;
-      free-only = λ p i. in-either (d .free) m i;
-      linear-made = λ p s. in-sum (d .linear) m s;
-      linear-only = λ p i. in-either (d .linear) m i;
-    })
+    let t : Tested (λ g. Stripped d m g ⊎ Renewed m g) = tested (λ g. dec-either (dec-stripped d m g) (dec-renewed m g)) in (
+      record { n = d .n; groups = t .test; free = bitOr (d .free) m; linear = bitOr (d .linear) m },
+      record {
+        positions = refl;
+        groups-made = λ g s. record { told = t .all g s };
+        groups-only = λ g k. t .only g (k .told);
+        free-made = λ p s. in-sum (d .free) m s;
+        free-only = λ p i. in-either (d .free) m i;
+        linear-made = λ p s. in-sum (d .linear) m s;
+        linear-only = λ p i. in-either (d .linear) m i;
+      },
+    )

@@ -16,3 +16,7 @@ pub mod Counting
 pub mod Collecting
 pub mod ExistsCore
 pub mod ExistsSteps
+pub mod DecidedGroups
+pub mod DecidedTerms
+pub mod ExistsBind
+pub mod OneResult

@@ -1,5 +1,5 @@
-// Every rule makes some description, and every core has a list. Each function here says a law and does nothing.
-ghost use Rattle.coverage.specs.Existence.{CoreHasList, NewExists, JoinExists, ForgetExists};
+// Every rule makes exactly one description, and every core has a list. Each function here says a law and does nothing.
+ghost use Rattle.coverage.specs.Existence.{CoreHasList, NewExists, BindExists, JoinExists, ForgetExists, OneResult};
 
 // The core groups of a description that keeps the rules stand in some ascending list.
 pub fn a_core_has_a_list()
@@ -11,6 +11,11 @@ pub fn there_is_a_new_description()
     ensures { λ _. ⌜ NewExists ⌝ }
 {}
 
+// A bind of any position to any term has a result, where the description keeps the rules.
+pub fn a_bind_has_a_result()
+    ensures { λ _. ⌜ BindExists ⌝ }
+{}
+
 // A join of any description with any marks and groups has a result.
 pub fn a_join_has_a_result()
     ensures { λ _. ⌜ JoinExists ⌝ }
@@ -19,4 +24,9 @@ pub fn a_join_has_a_result()
 // A forget of any positions has a result.
 pub fn a_forget_has_a_result()
     ensures { λ _. ⌜ ForgetExists ⌝ }
+{}
+
+// Two descriptions that a rule makes of the same things are one.
+pub fn results_are_unique()
+    ensures { λ _. ⌜ OneResult ⌝ }
 {}
