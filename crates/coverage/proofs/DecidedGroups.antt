@@ -1,6 +1,6 @@
 -- The kinds of groups that the bind rule speaks of can be decided, where the groups themselves can.
 use mathlib.Core.Path.{_≡_}
-use mathlib.Core.Logic.{_⊎_, inl, inr}
+use mathlib.Core.Logic.{inl, inr}
 use Prim.Native.Nat.{ℕ, zero, suc, _<_}
 use native.Mathlib.Decide.{ℕ-discrete}
 use native.Mathlib.Omega.{arith}
@@ -11,7 +11,7 @@ use Rattle.domain.specs.Coverage.{Covers}
 use Rattle.domain.specs.Binding.{Made, NewGroup, rest, made}
 use Rattle.domain.specs.declared.case.Case.{Case}
 use Rattle.domain.specs.declared.case.Case.the-variants.{Free, BothLinear, PositionLinear, TermLinear, Neither}
-use Rattle.domain.proofs.Bits.{in-left, in-right, within-le, within-self, union-within, same-mask}
+use Rattle.domain.proofs.Bits.{in-left, in-right, within-le, union-within, same-mask}
 use Rattle.domain.proofs.Hull.{pair-left, pair-right}
 use Rattle.coverage.proofs.Decided.{dec-in, dec-within, dec-meets}
 use Rattle.coverage.proofs.Searching.{dec-map, dec-not, dec-both, dec-either, dec-some, dec-each}

@@ -1,5 +1,5 @@
 -- What the bind rule asks of positions and terms can be decided for a description that keeps the rules.
-use mathlib.Core.Path.{_≡_}
+use mathlib.Core.Logic.{inl, inr}
 use mathlib.Core.Bool.{true, Bool-discrete}
 use Prim.Native.Nat.{ℕ, _^_, _<_}
 use native.Mathlib.Decide.{decLt, ℕ-discrete}
@@ -9,7 +9,6 @@ use Rattle.domain.specs.Binding.{FreeTerm, Once, LinearTerm, FreePosition, Line
 use Rattle.domain.specs.declared.case.Case.{Case}
 use Rattle.domain.specs.declared.case.Case.the-variants.{Free, BothLinear, PositionLinear, TermLinear, Neither}
 use Rattle.domain.specs.declared.term.Term.{Term}
-use mathlib.Core.Logic.{inl, inr}
 use Rattle.coverage.proofs.Decided.{dec-in}
 use Rattle.coverage.proofs.Searching.{dec-map, dec-not, dec-both, dec-either, dec-to, dec-some, dec-each}
 use Rattle.coverage.proofs.Collecting.{in-lt, power-lt}

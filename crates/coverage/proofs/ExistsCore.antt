@@ -1,10 +1,8 @@
 -- Whether a group is a core group can be decided, so the core has a list.
-use mathlib.Core.Logic.{_≢_}
 use mathlib.Core.List.{List}
-use Prim.Native.Nat.{ℕ, suc, _^_, _<_}
+use Prim.Native.Nat.{ℕ, suc, _^_}
 use native.Mathlib.Decide.{ℕ-discrete}
 use native.Mathlib.Omega.{arith}
-use Rattle.domain.specs.Masks.{In, Within}
 use Rattle.domain.specs.Told.{Told, Group, Lawful}
 use Rattle.domain.specs.Coverage.{Core, CoreList}
 use Rattle.domain.proofs.Bits.{within-le}

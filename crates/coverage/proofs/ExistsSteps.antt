@@ -6,7 +6,7 @@ use Prim.Native.Nat.{ℕ, suc, _-_, _^_, _<_}
 use native.Mathlib.Decide.{decLt, ℕ-discrete}
 use native.Mathlib.Omega.{arith}
 use lib.Bits.{bitAnd, bitOr}
-use Rattle.domain.specs.Masks.{In, Within}
+use Rattle.domain.specs.Masks.{In}
 use Rattle.domain.specs.Told.{Told, Group}
 use Rattle.domain.specs.Coverage.{Listed, here, there}
 use Rattle.domain.specs.Opening.{Single, New}

@@ -20,3 +20,4 @@ pub mod DecidedGroups
 pub mod DecidedTerms
 pub mod ExistsBind
 pub mod OneResult
+pub mod ExistsFit

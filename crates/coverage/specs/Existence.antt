@@ -1,5 +1,6 @@
 -- Every rule makes exactly one description, and every core has a list.
 use mathlib.Core.Path.{_≡_}
+use mathlib.Core.Logic.{_⊎_}
 use mathlib.Core.List.{List}
 use Prim.Native.Nat.{ℕ}
 use Rattle.domain.specs.Told.{Told, Group, Lawful}
@@ -7,12 +8,16 @@ use Rattle.domain.specs.Opening.{New}
 use Rattle.domain.specs.Binding.{Bound}
 use Rattle.domain.specs.Joining.{Joined}
 use Rattle.domain.specs.Forgetting.{Forgotten}
-use Rattle.domain.specs.Coverage.{CoreList}
+use Rattle.domain.specs.Coverage.{CoreFits, CoreList}
 use Rattle.domain.specs.declared.term.Term.{Term}
 
 -- the core groups of a description that keeps the rules stand in some ascending list
 abbrev pub CoreHasList : Type 0
 CoreHasList = (d : Told) → Lawful d → (gs : List ℕ) × CoreList (Group d) gs
+
+-- that core fits a capacity, or it does not
+abbrev pub CoreFitsOrNot : Type 0
+CoreFitsOrNot = (d : Told) (k : ℕ) → Lawful d → CoreFits (Group d) k ⊎ (CoreFits (Group d) k → ⊥)
 
 -- there is a new description of any number of positions
 abbrev pub NewExists : Type 0

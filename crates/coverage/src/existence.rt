@@ -1,9 +1,14 @@
 // Every rule makes exactly one description, and every core has a list. Each function here says a law and does nothing.
-ghost use Rattle.coverage.specs.Existence.{CoreHasList, NewExists, BindExists, JoinExists, ForgetExists, OneResult};
+ghost use Rattle.coverage.specs.Existence.{CoreHasList, CoreFitsOrNot, NewExists, BindExists, JoinExists, ForgetExists, OneResult};
 
 // The core groups of a description that keeps the rules stand in some ascending list.
 pub fn a_core_has_a_list()
     ensures { λ _. ⌜ CoreHasList ⌝ }
+{}
+
+// The core of a description that keeps the rules fits a capacity, or it does not.
+pub fn a_core_fits_or_not()
+    ensures { λ _. ⌜ CoreFitsOrNot ⌝ }
 {}
 
 // There is a new description of any number of positions.
