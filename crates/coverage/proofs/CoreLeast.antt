@@ -1,8 +1,7 @@
 -- The core of a set: it covers the same pairs, and every set that does so holds it.
 use mathlib.Core.Path.{_≡_, sym, subst}
-use mathlib.Core.Logic.{_⊎_, inl, inr}
 use mathlib.Core.Bool.{true, Bool-discrete}
-use Prim.Native.Nat.{ℕ, zero, suc, _<_}
+use Prim.Native.Nat.{ℕ}
 use native.Mathlib.Decide.{ℕ-discrete}
 use native.Mathlib.Omega.{arith}
 use Rattle.domain.specs.Masks.{In, Within}
@@ -10,31 +9,8 @@ use Rattle.domain.specs.Told.{Told, Group}
 use Rattle.domain.specs.Coverage.{Covers, SameCover, Alike, Core, CoreFits}
 use Rattle.domain.proofs.Bits.{within-le, same-mask, within-trans}
 use Rattle.coverage.proofs.Decided.{dec-in, dec-within}
+use Rattle.coverage.proofs.Searching.{Least, least}
 use Rattle.coverage.proofs.Cover.{covers-own, same-turned, same-trans, same-groups}
-
--- ---- the least number of which a test holds
-
-record Least (P : ℕ → Type 0) : Type 0 where
-  at : ℕ
-  holds : P at
-  first : (k : ℕ) → k < at → P k → ⊥
-
-module _ {P : ℕ → Type 0} (dec : (k : ℕ) → Dec (P k)) where
-  scan : (n : ℕ) → Least P ⊎ ((k : ℕ) → k < n → P k → ⊥)
-  scan zero = inr (λ k h p. omega arith)
-  scan (suc n) =
-      elim (scan n) [
-        | inl l ↦ inl l
-        | inr none ↦
-            elim (dec n) [
-              | yes p ↦ inl (record { at = n; holds = p; first = none })
-              | no ¬p ↦
-                  inr (λ k h p. elim (ℕ-discrete k n) [ yes e ↦ ¬p (subst P e p) | no ne ↦ none k (omega arith) p ])
-            ]
-      ]
-
-  least : (n : ℕ) → P n → Least P
-  least n p = elim (scan (suc n)) [ inl l ↦ l | inr none ↦ absurd (none n (omega arith) p) ]
 
 -- ---- the core covers the same pairs
 

@@ -83,7 +83,7 @@ pub record CountedTo (G : ℕ → Type 0) (g k : ℕ) : Type 0 where
   pub only : (h : ℕ) → Listed h groups → Core G h × (h < g)
   pub all : (h : ℕ) → Core G h → h < g → Listed h groups
 
-empty-listed : {h : ℕ} {A : Type 0} → Listed h [] → A
+pub empty-listed : {h : ℕ} {A : Type 0} → Listed h [] → A
 empty-listed l = elim l [ ]
 
 pub count-start : {G : ℕ → Type 0} → (Core G 0 → ⊥) → CountedTo G 1 0

@@ -1,4 +1,5 @@
 pub mod Decided
+pub mod Searching
 pub mod Cover
 pub mod CoreLeast
 pub mod BindCover
@@ -12,3 +13,11 @@ pub mod Verdicts
 pub mod Ranges
 pub mod Pairs
 pub mod Counting
+pub mod Collecting
+pub mod ExistsCore
+pub mod ExistsSteps
+pub mod DecidedGroups
+pub mod DecidedTerms
+pub mod ExistsBind
+pub mod OneResult
+pub mod ExistsFit

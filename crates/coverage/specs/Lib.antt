@@ -7,3 +7,4 @@ pub mod ForgetLaws
 pub mod Rules
 pub mod Walks
 pub mod Counts
+pub mod Existence
