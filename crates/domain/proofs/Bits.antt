@@ -208,6 +208,13 @@ and-meets a b h =
     let r = some-in (bitAnd a b) h in
     record { place = r .0; left = in-first a b (r .1); right = in-second a b (r .1) }
 
+pub meets-or-not : (a b : ℕ) → Meets a b ⊎ (Meets a b → ⊥)
+meets-or-not a b = go (bitAnd a b) refl
+  where
+    go : (c : ℕ) → bitAnd a b ≡ c → Meets a b ⊎ (Meets a b → ⊥)
+    go zero e = inr (λ m. omega (arith, e, meets-and m))
+    go (suc c) e = inl (and-meets a b (omega (arith, e)))
+
 -- subsets and unions
 
 pub within-self : (a : ℕ) → Within a a

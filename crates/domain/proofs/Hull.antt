@@ -59,7 +59,7 @@ extended-part {A} {S} {u} {h} {e} hull w (joined p) =
     both : Within (bitOr (p .left) (p .right)) (bitOr h (p .left))
     both =
         union-within (within-right h (p .left))
-          (within-trans (closure-hull hull (p .in-right) (within-trans right w)) (within-left h (p .left)))
+        (within-trans (closure-hull hull (p .in-right) (within-trans right w)) (within-left h (p .left)))
 
 pub pair-left : {A B : ℕ → Type 0} {u : ℕ} (p : Paired A B u) → Within (p .left) u
 pair-left p = subst (Within (p .left)) (p .whole) (within-left (p .left) (p .right))
@@ -85,17 +85,20 @@ two-paired f =
       right = f .fills .rest .group;
       in-left = f .fills .told;
       in-right = f .fills .rest .fills .told;
-      whole = f .fills .rest .fills .whole }
+      whole = f .fills .rest .fills .whole;
+    }
 
 pub paired-two : {A B : ℕ → Type 0} {u : ℕ} → Paired A B u → FilledBoth A B 0 u
 paired-two p =
     record {
       group = p .left;
       fills =
-        record {
-          told = p .in-left;
-          inside = pair-left p;
-          rest = record { group = p .right; fills = record { told = p .in-right; inside = pair-right p; whole = p .whole } } } }
+          record {
+            told = p .in-left;
+            inside = pair-left p;
+            rest = record { group = p .right; fills = record { told = p .in-right; inside = pair-right p; whole = p .whole } };
+          };
+    }
 
 -- one group of each, and the hull of the shared ones
 
@@ -117,7 +120,8 @@ both-extended {A} {B} {S} {u} {h} hull f = go h (hull .made) (f .fills .rest .fi
           right = b;
           in-left = joined (record { left = a; right = suc h; in-left = f .fills .told; in-right = made (omega arith); whole = refl });
           in-right = alone (f .fills .rest .fills .told);
-          whole = ap (λ m. bitOr m b) (or-comm a (suc h)) ∙ e }
+          whole = ap (λ m. bitOr m b) (or-comm a (suc h)) ∙ e;
+        }
 
 pub extended-both : {A B S : ℕ → Type 0} {u h : ℕ} → Hull S u h → Paired (Extended A S) (Extended B S) u → FilledBoth A B h u
 extended-both {A} {B} {S} {u} {h} hull p =
@@ -130,20 +134,24 @@ extended-both {A} {B} {S} {u} {h} hull p =
     record {
       group = a;
       fills =
-        record {
-          told = l .told;
-          inside = a-in;
-          rest =
-            record {
-              group = b;
-              fills =
+          record {
+            told = l .told;
+            inside = a-in;
+            rest =
                 record {
-                  told = r .told;
-                  inside = b-in;
-                  whole =
-                    whole-of p (union-within (union-within (hull .inside) a-in) b-in)
-                      (within-trans (l .covers) (within-left (bitOr h a) b))
-                      (within-trans (r .covers) (union-grows (within-left h a) (within-self b))) } } } }
+                  group = b;
+                  fills =
+                      record {
+                        told = r .told;
+                        inside = b-in;
+                        whole =
+                            whole-of p (union-within (union-within (hull .inside) a-in) b-in)
+                            (within-trans (l .covers) (within-left (bitOr h a) b))
+                            (within-trans (r .covers) (union-grows (within-left h a) (within-self b)));
+                      };
+                };
+          };
+    }
 
 -- the closure of one side: its hull, and one group of the other
 
@@ -158,7 +166,8 @@ module _ {A : ℕ → Type 0} (pos : (g : ℕ) → A g → 0 < g) where
         right = f .group;
         in-left = hull .made some;
         in-right = alone (f .fills .told);
-        whole = f .fills .whole }
+        whole = f .fills .whole;
+      }
 
   pub closed-some : {C : ℕ → Type 0} {u h : ℕ} → Hull A u h → Paired (Closure A) C u → 0 < h
   closed-some hull p = hull-some hull (inside-more (closure-some (p .in-left)) (pair-left p))
@@ -170,13 +179,15 @@ module _ {A : ℕ → Type 0} (pos : (g : ℕ) → A g → 0 < g) where
       record {
         group = r .group;
         fills =
-          record {
-            told = r .told;
-            inside = b-in;
-            whole =
-              whole-of p (union-within (hull .inside) b-in)
-                (within-trans (closure-hull hull (p .in-left) (pair-left p)) (within-left h (r .group)))
-                (r .covers) } }
+            record {
+              told = r .told;
+              inside = b-in;
+              whole =
+                  whole-of p (union-within (hull .inside) b-in)
+                  (within-trans (closure-hull hull (p .in-left) (pair-left p)) (within-left h (r .group)))
+                  (r .covers);
+            };
+      }
     where
       part : (e : ℕ) → Within e u → Extended B S e → Part B h e
       part e w (alone b) = record { group = e; told = b; inside = within-self e; covers = within-right h e }
@@ -186,9 +197,10 @@ module _ {A : ℕ → Type 0} (pos : (g : ℕ) → A g → 0 < g) where
             told = q .in-left;
             inside = pair-left q;
             covers =
-              subst (λ m. Within m (bitOr h (q .left))) (q .whole)
+                subst (λ m. Within m (bitOr h (q .left))) (q .whole)
                 (union-within (within-right h (q .left))
-                  (within-trans (closure-hull hull (closure-like sub (q .in-right)) (within-trans (pair-right q) w)) (within-left h (q .left)))) }
+                (within-trans (closure-hull hull (closure-like sub (q .in-right)) (within-trans (pair-right q) w)) (within-left h (q .left))));
+          }
 
 -- the closures of both sides
 
@@ -199,8 +211,8 @@ hulls-closed {A} {B} {u} {h} {k} hull other h-some k-some whole =
 pub closed-hulls : {A B : ℕ → Type 0} {u h k : ℕ} → Hull A u h → Hull B u k → Paired (Closure A) (Closure B) u → bitOr h k ≡ u
 closed-hulls {A} {B} {u} {h} {k} hull other p =
     whole-of p (union-within (hull .inside) (other .inside))
-      (within-trans (closure-hull hull (p .in-left) (pair-left p)) (within-left h k))
-      (within-trans (closure-hull other (p .in-right) (pair-right p)) (within-right h k))
+    (within-trans (closure-hull hull (p .in-left) (pair-left p)) (within-left h k))
+    (within-trans (closure-hull other (p .in-right) (pair-right p)) (within-right h k))
 
 -- the same groups, told in another way
 
@@ -216,4 +228,5 @@ pub both-like : {A B C D : ℕ → Type 0} {base u : ℕ} → Sub A C → Sub B 
 both-like l r f =
     record {
       group = f .group;
-      fills = record { told = l (f .group) (f .fills .told); inside = f .fills .inside; rest = filled-like r (f .fills .rest) } }
+      fills = record { told = l (f .group) (f .fills .told); inside = f .fills .inside; rest = filled-like r (f .fills .rest) };
+    }

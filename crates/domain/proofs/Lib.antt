@@ -8,3 +8,8 @@ pub mod Opening
 pub mod Walk
 pub mod Hull
 pub mod Made
+pub mod Cases
+pub mod Linearity
+pub mod Marks
+pub mod Binding
+pub mod Refusing

@@ -36,7 +36,7 @@ pair-from :
     → Paired P Q u → In p u → From A p
 pair-from {A} {P} {Q} {u} {p} l r q i =
     elim (in-either (q .left) (q .right) (subst (In p) (sym (q .whole)) i))
-      [ inl j ↦ l (q .left) (q .in-left) j | inr j ↦ r (q .right) (q .in-right) j ]
+    [ inl j ↦ l (q .left) (q .in-left) j | inr j ↦ r (q .right) (q .in-right) j ]
 
 extended-from :
     {A S G : ℕ → Type 0} {p : ℕ} → Sub A G → Sub S G → (e : ℕ) → Extended A S e → In p e → From G p

@@ -3,14 +3,17 @@ use mathlib.Core.Path.{_≡_, refl, sym, ap, _∙_}
 use mathlib.Core.Logic.{_⊎_, inl, inr, _≢_}
 use mathlib.Core.Bool.{Bool, true, false}
 use mathlib.Core.List.{List}
-use Prim.Native.Nat.{ℕ, _/_, _%_, _^_, _<_, _≤_}
+use Prim.Native.Nat.{ℕ, _+_, _/_, _%_, _^_, _<_, _≤_}
 use native.Mathlib.Omega.{arith}
 use native.Mathlib.Nat.{div-eq-of-lt}
 use lib.Pow.{pow-pos}
 use lib.Bits.{bitAnd, bitOr, bitXor, and-mask}
 use lib.Dec.{eqb}
-use lib.ListN.{length, getD, set}
+use lib.ListN.{length, getD, set, take}
+use lib.Seq.{getD-take}
 use Rattle.std.proofs.shelf.Lists.{getD-set-same, getD-set-other, getD-past}
+use Rattle.std.specs.Orderings.{Decides}
+use Rattle.std.proofs.shelf.Ways.{decides-at}
 use Rattle.std.proofs.shelf.Tests.{eq-eqb, ne-eqb, cases-eq}
 use Rattle.domain.specs.Masks.{In}
 use Rattle.domain.specs.Tables.{holdsBit}
@@ -66,3 +69,19 @@ put-others t g v inside same h ne = go (cases-eq (h / 8) (g / 8))
     go : (h / 8 ≡ g / 8) ⊎ (h / 8 ≡ g / 8 → ⊥) → eqb (getD (set t (g / 8) v) (h / 8) 0 / 2 ^ (h % 8) % 2) 1 ≡ eqb (getD t (h / 8) 0 / 2 ^ (h % 8) % 2) 1
     go (inl e) = rw (e, getD-set-same t (g / 8) v 0 inside) (ap (λ d. eqb d 1) (same (h % 8) (omega arith)))
     go (inr n) = rw (getD-set-other t (g / 8) (h / 8) v 0 n)
+
+-- the turn of a loop that writes bit after bit
+pub write-more :
+    (P : ℕ → Type 0) (s t : List ℕ) (k : ℕ) (on : Bool) → ((g : ℕ) → 0 < g → g < k → Decides (holdsBit s g) (P g))
+    → Decides on (P k) → holdsBit t k ≡ on → ((h : ℕ) → h ≢ k → holdsBit t h ≡ holdsBit s h)
+    → (g : ℕ) → 0 < g → g < k + 1 → Decides (holdsBit t g) (P g)
+write-more P s t k on before here at others g some below = go (cases-eq g k)
+  where
+    go : (g ≡ k) ⊎ (g ≡ k → ⊥) → Decides (holdsBit t g) (P g)
+    go (inl e) = rw e (decides-at (holdsBit t k) on at here)
+    go (inr ne) = decides-at (holdsBit t g) (holdsBit s g) (others g ne) (before g some (omega (arith, ne)))
+
+-- the first 512 bytes hold every mask of 12 positions
+pub front-bit : (t : List ℕ) (g : ℕ) → g < 4096 → holdsBit (take 512 t) g ≡ holdsBit t g
+unfolding holdsBit
+front-bit t g h = let k : g / 8 < 512 = omega arith in rw (getD-take 512 t (g / 8) 0 k)

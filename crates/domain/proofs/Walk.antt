@@ -8,7 +8,7 @@ use lib.Bits.{bitAnd, bitOr, and-step}
 use Rattle.std.proofs.shelf.Tests.{cases-order}
 use Rattle.domain.specs.Masks.{In, Within}
 use Rattle.domain.specs.Groups.{Closure}
-use Rattle.domain.specs.Filling.{Hull}
+use Rattle.domain.specs.Filling.{Hull, Touching}
 use Rattle.domain.proofs.Bits.{in-second, within-half, within-lowest, within-and, within-le, within-self, within-trans, within-left, within-right, union-within, nothing-within, or-comm, in-pos}
 
 -- no subset of u lies between s and the next one
@@ -68,7 +68,8 @@ module _ (A : ℕ → Type 0) (u : ℕ) where
         within = within-self u;
         inside = nothing-within u;
         holds = λ g a w h. absurd (omega (arith, within-le w));
-        made = λ h. absurd (omega arith) }
+        made = λ h. absurd (omega arith);
+      }
 
   pub hull-skip : (s h : ℕ) → HullAbove A u s h → (A s → ⊥) → HullAbove A u (bitAnd (s - 1) u) h
   hull-skip s h b out =
@@ -85,7 +86,8 @@ module _ (A : ℕ → Type 0) (u : ℕ) where
         within = next-within s u;
         inside = union-within (b .inside) (b .within);
         holds = λ g a w k. go g a w k (cases-order g s);
-        made = λ k. closed h (b .made) }
+        made = λ k. closed h (b .made);
+      }
     where
       go : (g : ℕ) → A g → Within g u → bitAnd (s - 1) u < g → (g ≡ s) ⊎ ((g < s) ⊎ (s < g)) → Within g (bitOr h s)
       go g a w k (inl e) = rw e (within-right h s)
@@ -98,3 +100,6 @@ module _ (A : ℕ → Type 0) (u : ℕ) where
 
   pub hull-end : (h : ℕ) → HullAbove A u 0 h → ((g : ℕ) → A g → 0 < g) → Hull A u h
   hull-end h b pos = record { inside = b .inside; holds = λ g a w. b .holds g a w (pos g a); made = b .made }
+
+pub touching-pos : {G : ℕ → Type 0} {a b : ℕ} (g : ℕ) → Touching G a b g → 0 < g
+touching-pos g t = in-pos (t .first .left)

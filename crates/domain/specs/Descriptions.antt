@@ -1,7 +1,12 @@
 -- What a description tells.
+use Prim.Native.Nat.{ℕ}
 use Rattle.domain.specs.Tables.{toldOf}
-use Rattle.domain.specs.Told.{Told}
+use Rattle.domain.specs.Told.{Told, Group}
 use Rattle.domain.specs.declared.description.Description.{Description}
 
 abbrev pub told : Description → Told
 told d = toldOf (d .positions) (d .table) (d .free) (d .linear)
+
+-- the groups of a description
+abbrev pub GroupOf : Description → ℕ → Type 0
+GroupOf d = Group (told d)

@@ -11,6 +11,10 @@ pub record Touching (G : ℕ → Type 0) (a b g : ℕ) : Type 0 where
   pub first : Meets g a
   pub second : Meets g b
 
+-- those that meet one
+abbrev pub Side : (ℕ → Type 0) → ℕ → ℕ → Type 0
+Side G a = Touching G a a
+
 -- h is the union of all groups of A inside u, and 0 where there are none
 pub record Hull (A : ℕ → Type 0) (u h : ℕ) : Type 0 where
   pub inside : Within h u

@@ -10,7 +10,9 @@ pub mod Coverage
 pub mod Tables
 pub mod Refusals
 pub mod Requests
+pub mod Leaving
 pub mod Filling
 pub mod Reaching
 pub mod Lawful
 pub mod Descriptions
+pub mod Signs

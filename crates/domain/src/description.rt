@@ -3,6 +3,8 @@ ghost use Prim.Native.Nat.{_<_, _^_};
 ghost use Rattle.domain.specs.Lawful.{Counted, FreeLinear, GroundLinear, FreeHeld};
 
 mod ask;
+mod bind;
+mod groups;
 mod opening;
 mod read;
 

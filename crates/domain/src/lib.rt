@@ -5,5 +5,8 @@ pub mod description;
 mod mask;
 mod reach;
 pub mod refusal;
+mod rule;
 pub mod table;
 pub mod term;
+#[cfg(test)]
+mod tests;

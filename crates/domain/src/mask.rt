@@ -1,8 +1,8 @@
 // Sets of positions as masks: position p is the bit p.
-ghost use Prim.Native.Nat.{ℕ, _^_, _-_, _<_};
+ghost use Prim.Native.Nat.{_^_, _-_, _<_};
+ghost use Rattle.domain.specs.Leaving.{Without};
 ghost use Rattle.domain.specs.Masks.{In, Meets};
 ghost use Rattle.std.specs.Orderings.{Decides};
-ghost use mathlib.Core.Bool.{true};
 ghost use mathlib.Core.Path.{_≡_};
 
 // The mask of one position.
@@ -34,10 +34,9 @@ pub(crate) fn meets(a: u16, b: u16) -> bool
     a & b != 0
 }
 
-// The positions of `mask`, without those of `lost` where `drop` says so.
+// The positions of `mask`, without those of `lost` where `drops` says so.
 pub(crate) fn without(mask: u16, lost: u16, drops: bool) -> u16
-    ensures kept { λ r. ⌜ ((p : ℕ) → In p mask → (drops ≡ true → In p lost → ⊥) → In p r) ⌝ }
-    ensures only { λ r. ⌜ ((p : ℕ) → In p r → In p mask × (drops ≡ true → In p lost → ⊥)) ⌝ }
+    ensures { λ r. ⌜ Without mask lost drops r ⌝ }
 {
     if drops { mask ^ (mask & lost) } else { mask }
 }

@@ -38,9 +38,9 @@ fits-all e law =
       groups = down 4095;
       short = let long = down-length 4095 in omega arith;
       holds = λ g core.
-        let range = law .in-range g (core .told) in
-        let few : e .n ≤ 12 = (let h = law .few-positions in omega arith) in
-        let high : 2 ^ e .n ≤ 2 ^ 12 = pow-mono few in
-        let below : g < 2 ^ e .n = range .1 in
-        down-lists 4095 g (range .0) (omega arith)
+          let range = law .in-range g (core .told) in
+          let few : e .n ≤ 12 = (let h = law .few-positions in omega arith) in
+          let high : 2 ^ e .n ≤ 2 ^ 12 = pow-mono few in
+          let below : g < 2 ^ e .n = range .1 in
+          down-lists 4095 g (range .0) (omega arith);
     }

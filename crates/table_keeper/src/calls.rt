@@ -1,5 +1,7 @@
 ghost use mathlib.Core.Path.{_≡_};
+ghost use Prim.Native.Nat.{ℕ};
 ghost use lib.ListN.{length};
+ghost use Rattle.domain.specs.Coverage.{Alike};
 ghost use Rattle.domain.specs.Masks.{In};
 ghost use Rattle.domain.specs.Told.{Share, Ground};
 ghost use Rattle.keeper.specs.Calls.{Opens, Binds, Answers, Exactly, askRefusal, pairRefusal};
@@ -41,8 +43,17 @@ pub impl Keeper for TableKeeper as TableKeeperKeeper {
         Ok(())
     }
 
-    fn bind(&mut self, position: u8, term: Term, scratch: &mut [u8]) -> Result<(), KeeperFault> {
-        Err(Refusal::Order.into())
+    fn bind(&mut self, position: u8, term: Term, scratch: &mut [u8]) -> Result<(), KeeperFault>
+        ensures binds { λ r. ⌜ Binds Alike 4095 position term (length (now (scratch .entry))) (toldBy (now (self .entry) .held)) (toldBy (now (self .exit) .held)) r ⌝ }
+        ensures same_capacity { λ _. ⌜ _≡_ {A = ℕ} 4095 4095 ⌝ }
+        ensures exactly { λ r. ⌜ Binds Exactly 4095 position term (length (now (scratch .entry))) (toldBy (now (self .entry) .held)) (toldBy (now (self .exit) .held)) r ⌝ }
+    {
+        let held = match &self.held {
+            Some(held) => held.bind(position, term, scratch)?,
+            None => return Err(Refusal::Order.into()),
+        };
+        self.held = Some(held);
+        Ok(())
     }
 
     fn is_ground(&self, position: u8) -> Result<bool, KeeperFault> {

@@ -1,5 +1,5 @@
 // The keeper that holds every group that the rules give, in a table of bits.
-mod calls;
+pub mod calls;
 
 use domain::description::Description;
 

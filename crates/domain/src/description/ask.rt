@@ -1,15 +1,12 @@
 // The yes-or-no questions. A position out of range is refused.
-ghost use Rattle.domain.specs.Binding.{InT};
 ghost use Rattle.domain.specs.Descriptions.{told};
 ghost use Rattle.domain.specs.Masks.{In};
-ghost use Rattle.domain.specs.Reaching.{Reach};
 ghost use Rattle.domain.specs.Refusals.{firstOf};
 ghost use Rattle.domain.specs.Requests.{askTests, pairTests, Gives};
 ghost use Rattle.domain.specs.Told.{Ground, Share};
 ghost use Rattle.std.specs.Orderings.{Decides};
 use super::Description;
 use crate::mask;
-use crate::reach::reach;
 use crate::refusal::Refusal;
 
 impl Description {
@@ -49,12 +46,5 @@ impl Description {
             return Err(Refusal::Position);
         }
         Ok(mask::has(self.reach(mask::single(p)), q))
-    }
-
-    // All positions that lie in a group with a position of the mask.
-    pub(crate) fn reach(&self, mask: u16) -> u16
-        ensures { λ r. ⌜ Reach (told (now (self .entry))) mask r ⌝ }
-    {
-        reach(&self.table, self.positions, mask)
     }
 }

@@ -1,9 +1,8 @@
-// Reading a description.
+// The number of positions, and the masks.
 ghost use mathlib.Core.Path.{_≡_};
 ghost use Rattle.domain.specs.Told.{Lawful};
 ghost use Rattle.domain.specs.Descriptions.{told};
 use super::Description;
-use crate::table;
 
 impl Description {
     // The number of positions. Every description keeps the rules.
@@ -24,12 +23,5 @@ impl Description {
         ensures { λ r. ⌜ r ≡ told (now (self .entry)) .linear ⌝ }
     {
         self.linear
-    }
-
-    // Whether g is one of the groups.
-    pub fn holds(&self, g: u16) -> bool
-        ensures { λ r. ⌜ r ≡ told (now (self .entry)) .groups g ⌝ }
-    {
-        table::in_range(self.positions, g) && table::holds(&self.table, g)
     }
 }

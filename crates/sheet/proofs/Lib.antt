@@ -1,0 +1,5 @@
+pub mod Arguments
+pub mod Digits
+pub mod Occurrences
+pub mod Runs
+pub mod Transcripts

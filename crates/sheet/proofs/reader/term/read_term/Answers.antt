@@ -1,0 +1,9 @@
+use Rattle.sheet.proofs.Occurrences.{sums-up}
+use Rattle.sheet.proofs.reader.term.read_term.Needs as need
+
+pub returns : need.returns
+returns c =
+    record {
+      value = c .nested .ensures;
+      law = sums-up (c .args .sheet .now) (c .args .record) (c .nested .result) (c .nested .ensures);
+    }

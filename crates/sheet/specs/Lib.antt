@@ -1,0 +1,14 @@
+pub mod Reading
+pub mod Kinds
+pub mod Records
+pub mod Terms
+pub mod Trees
+pub mod Steps
+pub mod Marks
+pub mod Lines
+pub mod Faults
+pub mod Running
+pub mod Serving
+pub mod Playing
+pub mod Turning
+pub mod Transcripts
