@@ -41,7 +41,7 @@ fn two_positions(sheet: &[u8], record: Record) -> Result<(u8, u8), ReaderFault>
     if record.len() != 3 {
         return Err(record.fault(Refusal::Length));
     }
-    let a = record.position(sheet, record.start + 1)?;
-    let b = record.position(sheet, record.start + 2)?;
-    Ok((a, b))
+    let left = record.position(sheet, record.start + 1)?;
+    let right = record.position(sheet, record.start + 2)?;
+    Ok((left, right))
 }

@@ -36,11 +36,19 @@ impl TermKind {
     }
 }
 
-// The term of a record, summed up.
+// The term of a record, summed up: what is held occurs in it, and what is repeated more than once.
 pub(crate) fn read_term(sheet: &[u8], record: Record) -> Result<Term, ReaderFault>
     requires { ⌜ Part (now sheet) «record» ⌝ }
     ensures value { λ r. ⌜ r ≡ termOf (now (sheet .entry)) «record» ⌝ }
     ensures law { λ r. ⌜ SumsUp (now (sheet .entry)) «record» r ⌝ }
+{
+    outermost(sheet, record)
+}
+
+// A term that stands in no compound.
+fn outermost(sheet: &[u8], record: Record) -> Result<Term, ReaderFault>
+    requires { ⌜ Part (now sheet) «record» ⌝ }
+    ensures { λ r. ⌜ r ≡ termOf (now (sheet .entry)) «record» ⌝ }
 {
     nested(sheet, record, DEEPEST)
 }

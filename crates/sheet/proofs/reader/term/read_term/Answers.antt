@@ -4,6 +4,6 @@ use Rattle.sheet.proofs.reader.term.read_term.Needs as need
 pub returns : need.returns
 returns c =
     record {
-      value = c .nested .ensures;
-      law = sums-up (c .args .sheet .now) (c .args .record) (c .nested .result) (c .nested .ensures);
+      value = c .outermost .ensures;
+      law = sums-up (c .args .sheet .now) (c .args .record) (c .outermost .result) (c .outermost .ensures);
     }
