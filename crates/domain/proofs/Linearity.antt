@@ -28,8 +28,8 @@ decides-free-term d t r bare single =
         record { bare = bare; place = s .0; only = s .1; free = subst (λ q. In q (d .free)) e (m .right) }
 
 -- no test at all where the term is not bare
-pub decides-not-bare : (d : Told) (t : Term) → t .bare ≡ false → Decides false (FreeTerm d t)
-decides-not-bare d t e = (λ f. absurd (false≢true f), λ f. sym e ∙ f .bare)
+pub decides-not-bare : (d : Told) (t : Term) → t .bare ≡ false → Decides (t .bare) (FreeTerm d t)
+decides-not-bare d t e = (λ f. absurd (false≢true (sym e ∙ f)), λ f. f .bare)
 
 -- the positions beside p that p shares with
 module _ (d : Told) (t : Term) (p near others : ℕ) {alone : ℕ} (is : alone ≡ 2 ^ p) (reach : Reach d alone near)

@@ -1,4 +1,5 @@
 -- What a description tells.
+use mathlib.Core.List.{List}
 use Prim.Native.Nat.{ℕ}
 use Rattle.domain.specs.Tables.{toldOf}
 use Rattle.domain.specs.Told.{Told, Group}
@@ -6,6 +7,10 @@ use Rattle.domain.specs.declared.description.Description.{Description}
 
 abbrev pub told : Description → Told
 told d = toldOf (d .positions) (d .table) (d .free) (d .linear)
+
+-- its table: with the rest of what is told it tells the same
+abbrev pub tableOf : Description → List ℕ
+tableOf d = d .table
 
 -- the groups of a description
 abbrev pub GroupOf : Description → ℕ → Type 0

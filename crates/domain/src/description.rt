@@ -5,6 +5,7 @@ ghost use Rattle.domain.specs.Lawful.{Counted, FreeLinear, GroundLinear, FreeH
 mod ask;
 mod bind;
 mod groups;
+mod lend;
 mod opening;
 mod read;
 

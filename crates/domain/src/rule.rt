@@ -1,9 +1,10 @@
-// The bind rule.
-pub(crate) mod choice;
+// The rules, worked in place on a lent table.
+pub(crate) mod bound;
+mod choice;
 mod linear;
 mod made;
-pub(crate) mod marks;
+mod marks;
 pub(crate) mod request;
-pub(crate) mod rewrite;
+mod rewrite;
 mod signs;
 mod walk;

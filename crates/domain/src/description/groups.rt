@@ -11,7 +11,7 @@ impl Description {
     pub fn holds(&self, g: u16) -> bool
         ensures { λ r. ⌜ r ≡ told (now (self .entry)) .groups g ⌝ }
     {
-        table::in_range(self.positions, g) && table::holds(&self.table, g)
+        table::is_group(&self.table, self.positions, g)
     }
 
     // All positions that lie in a group with a position of the mask.
