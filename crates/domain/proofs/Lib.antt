@@ -13,4 +13,7 @@ pub mod Cases
 pub mod Linearity
 pub mod Staying
 pub mod Binding
+pub mod Loading
 pub mod Refusing
+pub mod Joining
+pub mod Forgetting

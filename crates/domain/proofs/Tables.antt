@@ -95,6 +95,28 @@ written-more P old s t k j top on next before here at others =
         let ne : g ≢ j = ne in
         decides-at (holdsBit t g) (holdsBit s g) (others g ne) (before .done g (omega (arith, next, ne)) below)
 
+-- the same from the smallest mask upwards: from k on the table is as it was
+pub record WrittenUp (P : ℕ → Type 0) (old now : List ℕ) (k : ℕ) : Type 0 where
+  pub kept : (g : ℕ) → k ≤ g → holdsBit now g ≡ holdsBit old g
+  pub done : (g : ℕ) → 0 < g → g < k → Decides (holdsBit now g) (P g)
+
+pub written-up-none : (P : ℕ → Type 0) (old : List ℕ) → WrittenUp P old old 1
+written-up-none P old = record { kept = λ g h. refl; done = λ g h k. absurd (omega arith) }
+
+pub written-up-more :
+    (P : ℕ → Type 0) (old s t : List ℕ) (k : ℕ) (on : Bool) → WrittenUp P old s k
+    → Decides on (P k) → holdsBit t k ≡ on → ((h : ℕ) → h ≢ k → holdsBit t h ≡ holdsBit s h)
+    → WrittenUp P old t (k + 1)
+written-up-more P old s t k on before here at others =
+    record {
+      kept = λ g h. let ne : g ≢ k = omega arith in others g ne ∙ before .kept g (omega arith);
+      done = λ g some h. go g some h (cases-eq g k);
+    }
+  where
+    go : (g : ℕ) → 0 < g → g < k + 1 → (g ≡ k) ⊎ (g ≡ k → ⊥) → Decides (holdsBit t g) (P g)
+    go g some h (inl e) = rw e (decides-at (holdsBit t k) on at here)
+    go g some h (inr ne) = decides-at (holdsBit t g) (holdsBit s g) (others g ne) (before .done g some (omega (arith, ne)))
+
 -- a mask whose bit two tables share is a group of the one where it is one of the other
 pub same-groups : (m : Marks) (s t : List ℕ) (g : ℕ) → holdsBit t g ≡ holdsBit s g → Group (toldWith m s) g → Group (toldWith m t) g
 same-groups m s t g e k = record { told = ap (λ b. cond (inRange (m .positions) g) b false) e ∙ k .told }
