@@ -4,7 +4,9 @@ ghost use Rattle.domain.specs.Lawful.{Counted, FreeLinear, GroundLinear, FreeH
 
 mod ask;
 mod bind;
+mod forget;
 mod groups;
+mod join;
 mod lend;
 mod opening;
 mod read;
