@@ -2,13 +2,11 @@
 use mathlib.Core.Path.{_≡_, refl, sym, subst}
 use mathlib.Core.Logic.{_⊎_, inl, inr}
 use mathlib.Core.List.{List}
-use Prim.Native.Nat.{ℕ, _^_, _<_, _≤_}
+use Prim.Native.Nat.{ℕ, _^_, _<_}
 use native.Mathlib.Omega.{arith}
 use lib.Bits.{bitOr}
-use lib.ListN.{take}
-use lib.Pow.{pow-mono}
 use Rattle.std.specs.Orderings.{Decides}
-use Rattle.std.proofs.shelf.Ways.{not-from-decides, decides-at}
+use Rattle.std.proofs.shelf.Ways.{not-from-decides}
 use Rattle.domain.specs.Masks.{In, Meets}
 use Rattle.domain.specs.Told.{Told, Group, Ground, Lawful}
 use Rattle.domain.specs.Groups.{XGroup, TGroup}
@@ -22,7 +20,6 @@ use Rattle.domain.specs.declared.rule.signs.Signs.{Signs}
 use Rattle.domain.specs.declared.term.Term.{Term}
 use Rattle.domain.proofs.Bits.{in-or-not, meets-or-not, in-pos, in-below, below-lt, in-left, in-right, in-either, in-single}
 use Rattle.domain.proofs.Laws.{group-of, of-group}
-use Rattle.domain.proofs.Tables.{front-bit}
 use Rattle.domain.proofs.Made.{From, made-holds, new-from}
 
 -- the case that the answers choose fits
@@ -54,19 +51,23 @@ fits-of d x t s Neither seen h = (
   not-from-decides _ (seen .term-linear) (h .3),
 )
 
+-- the groups are masks in range
+abbrev pub Ranged : Told → Type 0
+Ranged d = (g : ℕ) → Group d g → (0 < g) × (g < 2 ^ d .n)
+
 -- new groups are masks in range, as the old ones are
 pub new-range :
-    (d : Told) → Lawful d → (x v : ℕ) (c : Case) {u : ℕ} → NewGroup (Group d) x v c u → (0 < u) × (u < 2 ^ d .n)
-new-range d law x v c {u} m = (some m, below-lt u (d .n) (λ p i. below p (new-from (Group d) x v c m i)))
+    (d : Told) → Ranged d → (x v : ℕ) (c : Case) {u : ℕ} → NewGroup (Group d) x v c u → (0 < u) × (u < 2 ^ d .n)
+new-range d range x v c {u} m = (some m, below-lt u (d .n) (λ p i. below p (new-from (Group d) x v c m i)))
   where
     some : NewGroup (Group d) x v c u → 0 < u
-    some (rest r) = law .in-range u (r .group) .0
+    some (rest r) = range u (r .group) .0
     some (made k) = in-pos (made-holds (Group d) x v c k)
 
     below : (p : ℕ) → From (Group d) p → p < d .n
-    below p f = in-below (d .n) (f .holds) (law .in-range (f .group) (f .told) .1)
+    below p f = in-below (d .n) (f .holds) (range (f .group) (f .told) .1)
 
-module _ (d : Told) (law : Lawful d) (x : ℕ) (t : Term) (c : Case) (bits : List ℕ) (f k a l : ℕ) where
+module _ (d : Told) (range : Ranged d) (x : ℕ) (t : Term) (c : Case) (bits : List ℕ) (f k a l : ℕ) where
   pub bound-of :
       Fits d x t c
       → ((u : ℕ) → 0 < u → u < 2 ^ d .n → Decides (holdsBit bits u) (NewGroup (Group d) x (t .held) c u))
@@ -83,7 +84,7 @@ module _ (d : Told) (law : Lawful d) (x : ℕ) (t : Term) (c : Case) (bits : Lis
         positions = refl;
         case = c;
         fits = fits;
-        groups-made = λ g m. let r = new-range d law x (t .held) c m in group-of (d .n) bits f l g (r .0) (r .1) (new g (r .0) (r .1) .1 m);
+        groups-made = λ g m. let r = new-range d range x (t .held) c m in group-of (d .n) bits f l g (r .0) (r .1) (new g (r .0) (r .1) .1 m);
         groups-only = λ g m. let r = of-group (d .n) bits f l g m in new g (r .0) (r .1) .0 (r .2);
         free-kept = free-kept;
         free-only = free-only;
@@ -100,28 +101,24 @@ module _ (d : Told) (law : Lawful d) (x : ℕ) (t : Term) (c : Case) (bits : Lis
       only p (inl i) = elim (in-either k f i) [ inl j ↦ inl (linear-only p j) | inr j ↦ inr (inl j) ]
       only p (inr i) = inr (inr (ground-made p i))
 
--- the same with the new table at the front of a scratch list
+-- the same of a table that is worked in place
 pub bound-made :
-    (d : Told) → Lawful d → (x : ℕ) (t : Term) (s : Signs) (c : Case) (scratch bits : List ℕ) (f k a : ℕ)
-    → Seen d x t s
+    (n : ℕ) (old : List ℕ) (was-free was-linear x : ℕ) (t : Term) (s : Signs) (c : Case) (bits : List ℕ) (f k a : ℕ)
+    → Seen (toldOf n old was-free was-linear) x t s
     → Chosen s c
-    → ((u : ℕ) → 0 < u → u < 2 ^ d .n → Decides (holdsBit scratch u) (NewGroup (Group d) x (t .held) c u))
-    → bits ≡ take 512 scratch
-    → ((p : ℕ) → StaysFree d x t p → In p f)
-    → ((p : ℕ) → In p f → StaysFree d x t p)
-    → ((p : ℕ) → StaysLinear d x t p → In p k)
-    → ((p : ℕ) → In p k → StaysLinear d x t p)
-    → ((g l p : ℕ) → In p a → Ground (toldOf (d .n) bits g l) p)
-    → ((g l p : ℕ) → Ground (toldOf (d .n) bits g l) p → In p a)
-    → Bound d x t (toldOf (d .n) bits f (bitOr (bitOr k f) a))
-bound-made d law x t s c scratch bits f k a seen chosen new front free-kept free-only linear-kept linear-only ground-made ground-all =
-    bound-of d law x t c bits f k a (bitOr (bitOr k f) a) (fits-of d x t s c seen chosen) (λ u some h. decides-at _ _ (bit u h) (new u some h))
-    free-kept free-only linear-kept linear-only (ground-made f (bitOr (bitOr k f) a)) (ground-all f (bitOr (bitOr k f) a)) refl
-  where
-    bit : (u : ℕ) → u < 2 ^ d .n → holdsBit bits u ≡ holdsBit scratch u
-    bit u h =
-        let few : d .n ≤ 12 = omega (arith, law .few-positions) in
-        rw front (front-bit scratch u (omega (arith, h, pow-mono few)))
+    → ((u : ℕ) → 0 < u → u < 2 ^ n → Decides (holdsBit bits u) (NewGroup (Group (toldOf n old was-free was-linear)) x (t .held) c u))
+    → ((p : ℕ) → StaysFree (toldOf n old was-free was-linear) x t p → In p f)
+    → ((p : ℕ) → In p f → StaysFree (toldOf n old was-free was-linear) x t p)
+    → ((p : ℕ) → StaysLinear (toldOf n old was-free was-linear) x t p → In p k)
+    → ((p : ℕ) → In p k → StaysLinear (toldOf n old was-free was-linear) x t p)
+    → ((g l p : ℕ) → In p a → Ground (toldOf n bits g l) p)
+    → ((g l p : ℕ) → Ground (toldOf n bits g l) p → In p a)
+    → Bound (toldOf n old was-free was-linear) x t (toldOf n bits f (bitOr (bitOr k f) a))
+bound-made n old was-free was-linear x t s c bits f k a seen chosen new free-kept free-only linear-kept linear-only ground-made ground-all =
+    let d = toldOf n old was-free was-linear in
+    let l = bitOr (bitOr k f) a in
+    bound-of d (λ g m. let r = of-group n old was-free was-linear g m in (r .0, r .1)) x t c bits f k a l (fits-of d x t s c seen chosen) new
+    free-kept free-only linear-kept linear-only (ground-made f l) (ground-all f l) refl
 
 -- where the term or the position is free, no other case fits
 free-by-term : (d : Told) (x : ℕ) (t : Term) (c : Case) → Fits d x t c → FreeTerm d t → c ≡ Free
@@ -186,7 +183,7 @@ module _ (d : Told) (law : Lawful d) (x : ℕ) (t : Term) (e : Told) (b : Bound 
       record {
         some-positions = omega (arith, b .positions, law .some-positions);
         few-positions = omega (arith, b .positions, law .few-positions);
-        in-range = λ g m. rw (b .positions) (new-range d law x (t .held) (b .case) (b .groups-only g m));
+        in-range = λ g m. rw (b .positions) (new-range d (law .in-range) x (t .held) (b .case) (b .groups-only g m));
         linear-in-range = rw (b .positions) (below-lt (e .linear) (d .n) (λ p i. below p (b .linear-only p i)));
         free-is-linear = λ p i. b .linear-added p (inl i);
         ground-is-linear = λ p g. b .linear-added p (inr g);

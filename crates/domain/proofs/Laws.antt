@@ -5,11 +5,12 @@ use mathlib.Core.List.{List}
 use Prim.Native.Nat.{ℕ, _^_, _<_}
 use lib.Dec.{ltb}
 use Rattle.std.proofs.shelf.Tests.{false≢true, ltb-true, lt-ltb}
-use Rattle.domain.specs.Tables.{holdsBit, inRange, toldOf}
+use Rattle.domain.specs.Tables.{holdsBit, inRange, toldOf, toldWith}
 use Rattle.domain.specs.Told.{Group, Ground, Lawful}
 use Rattle.domain.specs.Lawful.{Counted, FreeLinear, GroundLinear, FreeHeld, Bare}
 use Rattle.domain.specs.Descriptions.{told}
 use Rattle.domain.specs.declared.description.Description.{Description}
+use Rattle.domain.specs.declared.marks.Marks.{Marks}
 
 -- a mask in range
 pub in-range : (n g : ℕ) → inRange n g ≡ true → (0 < g) × (g < 2 ^ n)
@@ -73,3 +74,9 @@ carried n t f l law = (
 pub lawful : (d : Description) → Lawful (told d)
 lawful d =
     lawful-of (d .positions) (d .table) (d .free) (d .linear) (d .counted) (d .bounded) (d .freed) (d .grounded) (d .held)
+
+-- a table and marks that are those of a description tell the same
+pub told-same :
+    (m : Marks) (t : List ℕ) (d : Description) → m .positions ≡ d .positions → m .free ≡ d .free → m .linear ≡ d .linear → t ≡ d .table
+    → toldWith m t ≡ told d
+told-same m t d n f l e = rw (n, f, l, e)

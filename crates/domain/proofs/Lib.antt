@@ -8,8 +8,12 @@ pub mod Opening
 pub mod Walk
 pub mod Hull
 pub mod Made
+pub mod Local
 pub mod Cases
 pub mod Linearity
-pub mod Marks
+pub mod Staying
 pub mod Binding
+pub mod Loading
 pub mod Refusing
+pub mod Joining
+pub mod Forgetting

@@ -5,15 +5,16 @@ use mathlib.Core.Bool.{Bool, true, false, not}
 use Prim.Native.Nat.{ℕ, _+_, _^_, _<_}
 use native.Mathlib.Omega.{arith}
 use lib.Count.{ones}
+use lib.Dec.{eqb}
 use Rattle.std.specs.Orderings.{Decides}
-use Rattle.std.proofs.shelf.Tests.{cases-bool, cases-eq, not-true, not-from-false, false≢true}
+use Rattle.std.proofs.shelf.Tests.{cases-bool, cases-eq, not-true, not-from-false, eq-eqb, eqb-true, false≢true}
 use Rattle.std.proofs.shelf.Ways.{decides-like, not-from-decides}
 use Rattle.domain.specs.Masks.{In, Meets}
 use Rattle.domain.specs.Told.{Told, Ground, Share}
 use Rattle.domain.specs.Binding.{FreeTerm, Once, LinearTerm}
 use Rattle.domain.specs.Reaching.{Reach}
 use Rattle.domain.specs.declared.term.Term.{Term}
-use Rattle.domain.proofs.Asking.{in-group, in-share}
+use Rattle.domain.proofs.Asking.{in-group, in-share, decides-ground}
 use Rattle.domain.proofs.Bits.{in-single, single-in, one-position, in-below}
 
 pub decides-free-term : (d : Told) (t : Term) (r : Bool) → t .bare ≡ true → ones (t .held) ≡ 1 → Decides r (Meets (t .held) (d .free)) → Decides r (FreeTerm d t)
@@ -27,8 +28,8 @@ decides-free-term d t r bare single =
         record { bare = bare; place = s .0; only = s .1; free = subst (λ q. In q (d .free)) e (m .right) }
 
 -- no test at all where the term is not bare
-pub decides-not-bare : (d : Told) (t : Term) → t .bare ≡ false → Decides false (FreeTerm d t)
-decides-not-bare d t e = (λ f. absurd (false≢true f), λ f. sym e ∙ f .bare)
+pub decides-not-bare : (d : Told) (t : Term) → t .bare ≡ false → Decides (t .bare) (FreeTerm d t)
+decides-not-bare d t e = (λ f. absurd (false≢true (sym e ∙ f)), λ f. f .bare)
 
 -- the positions beside p that p shares with
 module _ (d : Told) (t : Term) (p near others : ℕ) {alone : ℕ} (is : alone ≡ 2 ^ p) (reach : Reach d alone near)
@@ -59,17 +60,15 @@ module _ (d : Told) (t : Term) (p near others : ℕ) {alone : ℕ} (is : alone �
           absurd (o .apart (m .place) (m .right) (λ q. k .1 (rw (is, q) (in-single p))) (in-share d p (m .place) (near-p .made (m .place) (k .0))))
 
 -- ground, or held once
-pub decides-ground-or :
-    (d : Told) (t : Term) (p : ℕ) (b : Bool) → Decides b (Ground d p) → b ≡ true → Decides b (Ground d p ⊎ Once d t p)
-decides-ground-or d t p b ground is = (λ e. inl (ground .0 e), λ s. is)
+pub decides-ground-or : (d : Told) (t : Term) (p near : ℕ) → p < d .n → Reach d (2 ^ p) near → near ≡ 0 → Decides (eqb near 0) (Ground d p ⊎ Once d t p)
+decides-ground-or d t p near h reach e =
+    (λ b. inl (decides-ground d p near h reach .0 b), λ s. eq-eqb near 0 e)
 
-pub decides-or-once :
-    (d : Told) (t : Term) (p : ℕ) (b r : Bool) → Decides b (Ground d p) → b ≡ false → Decides r (Once d t p)
-    → Decides r (Ground d p ⊎ Once d t p)
-decides-or-once d t p b r ground is test = decides-like r inr (λ s. once s) test
+pub decides-or-once : (d : Told) (t : Term) (p near : ℕ) (r : Bool) → p < d .n → Reach d (2 ^ p) near → (near ≡ 0 → ⊥) → Decides r (Once d t p) → Decides r (Ground d p ⊎ Once d t p)
+decides-or-once d t p near r h reach ne test = decides-like r inr (λ s. once s) test
   where
     once : Ground d p ⊎ Once d t p → Once d t p
-    once (inl g) = absurd (not-from-decides b ground is g)
+    once (inl g) = absurd (ne (eqb-true near 0 (decides-ground d p near h reach .1 g)))
     once (inr o) = o
 
 -- the loop over the positions of the term: those below k are as they should be

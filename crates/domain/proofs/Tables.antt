@@ -1,7 +1,7 @@
 -- One bit of a byte, and of a table of bytes.
-use mathlib.Core.Path.{_≡_, ap}
+use mathlib.Core.Path.{_≡_, refl, ap, _∙_}
 use mathlib.Core.Logic.{_⊎_, inl, inr, _≢_}
-use mathlib.Core.Bool.{Bool, true, false}
+use mathlib.Core.Bool.{Bool, true, false, cond}
 use mathlib.Core.List.{List}
 use Prim.Native.Nat.{ℕ, _+_, _/_, _%_, _^_, _<_, _≤_}
 use native.Mathlib.Omega.{arith}
@@ -9,14 +9,15 @@ use native.Mathlib.Nat.{div-eq-of-lt}
 use lib.Pow.{pow-pos}
 use lib.Bits.{bitAnd, bitOr, bitXor, and-mask}
 use lib.Dec.{eqb}
-use lib.ListN.{length, getD, set, take}
-use lib.Seq.{getD-take}
+use lib.ListN.{length, getD, set}
 use Rattle.std.proofs.shelf.Lists.{getD-set-same, getD-set-other, getD-past}
 use Rattle.std.specs.Orderings.{Decides}
 use Rattle.std.proofs.shelf.Ways.{decides-at}
 use Rattle.std.proofs.shelf.Tests.{eq-eqb, ne-eqb, cases-eq}
 use Rattle.domain.specs.Masks.{In}
-use Rattle.domain.specs.Tables.{holdsBit}
+use Rattle.domain.specs.Tables.{holdsBit, inRange, toldWith}
+use Rattle.domain.specs.Told.{Group}
+use Rattle.domain.specs.declared.marks.Marks.{Marks}
 use Rattle.domain.proofs.Bits.{in-or-not, in-left, in-right, in-either, in-single, single-in, in-lacking, lacking-in}
 
 -- digits agree where one is 1 exactly when the other is
@@ -70,18 +71,52 @@ put-others t g v inside same h ne = go (cases-eq (h / 8) (g / 8))
     go (inl e) = rw (e, getD-set-same t (g / 8) v 0 inside) (ap (λ d. eqb d 1) (same (h % 8) (omega arith)))
     go (inr n) = rw (getD-set-other t (g / 8) (h / 8) v 0 n)
 
--- the turn of a loop that writes bit after bit
-pub write-more :
-    (P : ℕ → Type 0) (s t : List ℕ) (k : ℕ) (on : Bool) → ((g : ℕ) → 0 < g → g < k → Decides (holdsBit s g) (P g))
-    → Decides on (P k) → holdsBit t k ≡ on → ((h : ℕ) → h ≢ k → holdsBit t h ≡ holdsBit s h)
-    → (g : ℕ) → 0 < g → g < k + 1 → Decides (holdsBit t g) (P g)
-write-more P s t k on before here at others g some below = go (cases-eq g k)
-  where
-    go : (g ≡ k) ⊎ (g ≡ k → ⊥) → Decides (holdsBit t g) (P g)
-    go (inl e) = rw e (decides-at (holdsBit t k) on at here)
-    go (inr ne) = decides-at (holdsBit t g) (holdsBit s g) (others g ne) (before g some (omega (arith, ne)))
+-- the turn of a loop that writes bit after bit, from the largest mask downwards: below k the table is as it was
+pub record Written (P : ℕ → Type 0) (old now : List ℕ) (k top : ℕ) : Type 0 where
+  pub kept : (g : ℕ) → g < k → holdsBit now g ≡ holdsBit old g
+  pub done : (g : ℕ) → k ≤ g → g < top → Decides (holdsBit now g) (P g)
 
--- the first 512 bytes hold every mask of 12 positions
-pub front-bit : (t : List ℕ) (g : ℕ) → g < 4096 → holdsBit (take 512 t) g ≡ holdsBit t g
-unfolding holdsBit
-front-bit t g h = let k : g / 8 < 512 = omega arith in rw (getD-take 512 t (g / 8) 0 k)
+pub written-none : (P : ℕ → Type 0) (old : List ℕ) (top : ℕ) → Written P old old top top
+written-none P old top = record { kept = λ g h. refl; done = λ g h k. absurd (omega arith) }
+
+pub written-more :
+    (P : ℕ → Type 0) (old s t : List ℕ) (k j top : ℕ) (on : Bool) → k ≡ j + 1 → Written P old s k top
+    → Decides on (P j) → holdsBit t j ≡ on → ((h : ℕ) → h ≢ j → holdsBit t h ≡ holdsBit s h)
+    → Written P old t j top
+written-more P old s t k j top on next before here at others =
+    record {
+      kept = λ g h. let ne : g ≢ j = omega arith in others g ne ∙ before .kept g (omega arith);
+      done = λ g h below. go g h below (cases-eq g j);
+    }
+  where
+    go : (g : ℕ) → j ≤ g → g < top → (g ≡ j) ⊎ (g ≡ j → ⊥) → Decides (holdsBit t g) (P g)
+    go g h below (inl e) = rw e (decides-at (holdsBit t j) on at here)
+    go g h below (inr ne) =
+        let ne : g ≢ j = ne in
+        decides-at (holdsBit t g) (holdsBit s g) (others g ne) (before .done g (omega (arith, next, ne)) below)
+
+-- the same from the smallest mask upwards: from k on the table is as it was
+pub record WrittenUp (P : ℕ → Type 0) (old now : List ℕ) (k : ℕ) : Type 0 where
+  pub kept : (g : ℕ) → k ≤ g → holdsBit now g ≡ holdsBit old g
+  pub done : (g : ℕ) → 0 < g → g < k → Decides (holdsBit now g) (P g)
+
+pub written-up-none : (P : ℕ → Type 0) (old : List ℕ) → WrittenUp P old old 1
+written-up-none P old = record { kept = λ g h. refl; done = λ g h k. absurd (omega arith) }
+
+pub written-up-more :
+    (P : ℕ → Type 0) (old s t : List ℕ) (k : ℕ) (on : Bool) → WrittenUp P old s k
+    → Decides on (P k) → holdsBit t k ≡ on → ((h : ℕ) → h ≢ k → holdsBit t h ≡ holdsBit s h)
+    → WrittenUp P old t (k + 1)
+written-up-more P old s t k on before here at others =
+    record {
+      kept = λ g h. let ne : g ≢ k = omega arith in others g ne ∙ before .kept g (omega arith);
+      done = λ g some h. go g some h (cases-eq g k);
+    }
+  where
+    go : (g : ℕ) → 0 < g → g < k + 1 → (g ≡ k) ⊎ (g ≡ k → ⊥) → Decides (holdsBit t g) (P g)
+    go g some h (inl e) = rw e (decides-at (holdsBit t k) on at here)
+    go g some h (inr ne) = decides-at (holdsBit t g) (holdsBit s g) (others g ne) (before .done g some (omega (arith, ne)))
+
+-- a mask whose bit two tables share is a group of the one where it is one of the other
+pub same-groups : (m : Marks) (s t : List ℕ) (g : ℕ) → holdsBit t g ≡ holdsBit s g → Group (toldWith m s) g → Group (toldWith m t) g
+same-groups m s t g e k = record { told = ap (λ b. cond (inRange (m .positions) g) b false) e ∙ k .told }

@@ -3,7 +3,8 @@
 use mathlib.Core.Path.{_≡_}
 use mathlib.Core.Logic.{_⊎_}
 use Prim.Native.Nat.{ℕ, _^_, _<_}
-use Rattle.domain.specs.Masks.{In}
+use lib.Bits.{bitOr}
+use Rattle.domain.specs.Masks.{In, Within}
 use Rattle.domain.specs.Told.{Told, Group}
 
 -- g is what a group of d leaves without the positions of m, and is not empty
@@ -19,6 +20,16 @@ pub record Renewed (m g : ℕ) : Type 0 where
   pub place : ℕ
   pub forgotten : In place m
   pub only : g ≡ 2 ^ place
+
+-- the groups that are left
+abbrev pub Left : Told → ℕ → ℕ → Type 0
+Left d m g = Stripped d m g ⊎ Renewed m g
+
+-- u, with some positions of m, is a group of G
+pub record Supplied (G : ℕ → Type 0) (m u : ℕ) : Type 0 where
+  pub part : ℕ
+  pub inside : Within part m
+  pub told : G (bitOr u part)
 
 -- e is exactly d with the positions of m forgotten
 pub record Forgotten (d : Told) (m : ℕ) (e : Told) : Type 0 where

@@ -4,7 +4,10 @@ ghost use Rattle.domain.specs.Lawful.{Counted, FreeLinear, GroundLinear, FreeH
 
 mod ask;
 mod bind;
+mod forget;
 mod groups;
+mod join;
+mod lend;
 mod opening;
 mod read;
 
@@ -14,7 +17,6 @@ pub struct Description {
     table: [u8; 512],
     free: u16,
     linear: u16,
-    // between 1 and 12 positions; free positions are linear; ground ones are linear and never free
     ghost counted: { Counted positions },
     ghost bounded: { linear < 2 ^ positions },
     ghost freed: { FreeLinear free linear },

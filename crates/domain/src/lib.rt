@@ -2,6 +2,8 @@
 // and how binding a position to a term changes that.
 pub mod case;
 pub mod description;
+pub mod lent;
+pub mod marks;
 mod mask;
 mod reach;
 pub mod refusal;

@@ -1,9 +1,14 @@
-// The bind rule.
-pub(crate) mod choice;
+// The rules, worked in place on a lent table.
+pub(crate) mod bound;
+mod choice;
+pub(crate) mod forgotten;
+pub(crate) mod join_request;
+pub(crate) mod joined;
 mod linear;
+pub(crate) mod load;
 mod made;
-pub(crate) mod marks;
+mod marks;
 pub(crate) mod request;
-pub(crate) mod rewrite;
+mod rewrite;
 mod signs;
 mod walk;

@@ -1,5 +1,10 @@
 // Small sheets worked out by hand.
 use crate::description::Description;
+use crate::lent::bind_table;
+use crate::lent::forget_table;
+use crate::lent::join_table;
+use crate::lent::load_table;
+use crate::marks::Marks;
 use crate::refusal::Refusal;
 use crate::refusal::RefusalDebug;
 use crate::refusal::RefusalPartialEq;
@@ -52,6 +57,36 @@ fn binds_what_shares() -> Result<(), Fail> {
 }
 
 #[test]
+fn joins_and_forgets() -> Result<(), Fail> {
+    let mut scratch = [0; 512];
+    let d = Description::new(3)?;
+    let e = d.join(6, 7, &[3, 4], &mut scratch)?;
+    tells(&e, 1 << 1 | 1 << 2 | 1 << 3 | 1 << 4, 6, 7)?;
+    let f = e.forget(2, &mut scratch)?;
+    tells(&f, 1 << 1 | 1 << 2 | 1 << 4, 6, 7)
+}
+
+#[test]
+fn works_in_place() -> Result<(), Fail> {
+    let mut table = [255; 512];
+    load_table(&mut table, &[1, 2, 4]);
+    let marks = Marks {
+        positions: 3,
+        free: 7,
+        linear: 7,
+    };
+    let bound = bind_table(&mut table, marks, 0, compound(6))?;
+    check_eq(table[0], 1 << 3 | 1 << 5)?;
+    check_eq(bound.free, 6)?;
+    let joined = join_table(&mut table, bound, 2, 7, &[1, 2, 4])?;
+    check_eq(table[0], 1 << 1 | 1 << 2 | 1 << 3 | 1 << 4 | 1 << 5)?;
+    check_eq(joined.free, 2)?;
+    let forgotten = forget_table(&mut table, joined, 1)?;
+    check_eq(table[0], 1 << 1 | 1 << 2 | 1 << 4)?;
+    check_eq(forgotten.free, 3)
+}
+
+#[test]
 fn refuses() -> Result<(), Fail> {
     let d = Description::new(4)?;
     let bare = Term {
@@ -61,7 +96,10 @@ fn refuses() -> Result<(), Fail> {
     };
     check(refused(d.bind(4, bare, &mut [0; 512]), Refusal::Position))?;
     check(refused(d.bind(1, bare, &mut [0; 512]), Refusal::Itself))?;
-    check(refused(d.bind(0, bare, &mut [0; 511]), Refusal::Room))
+    check(refused(d.bind(0, bare, &mut [0; 511]), Refusal::Room))?;
+    check(refused(d.join(15, 15, &[2, 1], &mut [0; 512]), Refusal::Groups))?;
+    check(refused(d.join(15, 15, &[1, 2], &mut [0; 512]), Refusal::Marks))?;
+    check(refused(d.forget(16, &mut [0; 512]), Refusal::Position))
 }
 
 fn refused(r: Result<Description, Refusal>, expected: Refusal) -> bool {

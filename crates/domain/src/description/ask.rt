@@ -17,7 +17,7 @@ impl Description {
         if p >= self.positions {
             return Err(Refusal::Position);
         }
-        Ok(self.lacks(p))
+        Ok(self.reach(mask::single(p)) == 0)
     }
 
     pub fn is_free(&self, p: u8) -> Result<bool, Refusal>
@@ -45,6 +45,6 @@ impl Description {
         if p >= self.positions || q >= self.positions {
             return Err(Refusal::Position);
         }
-        Ok(self.joins(p, q))
+        Ok(mask::has(self.reach(mask::single(p)), q))
     }
 }

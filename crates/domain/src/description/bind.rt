@@ -10,14 +10,9 @@ ghost use mathlib.Core.Bool.{true};
 ghost use mathlib.Core.Path.{_≡_};
 use super::Description;
 use crate::refusal::Refusal;
-use crate::rule::choice::chosen;
-use crate::rule::choice::signs_of;
-use crate::rule::marks::ground_mask;
-use crate::rule::marks::stays_free;
-use crate::rule::marks::stays_linear;
+use crate::rule::bound::bound;
 use crate::rule::request::refusal_of;
-use crate::rule::rewrite::copied;
-use crate::rule::rewrite::rewrite;
+use crate::table::copied;
 use crate::term::Term;
 
 impl Description {
@@ -29,25 +24,22 @@ impl Description {
         if let Some(refusal) = refusal_of(self.positions, x, term, scratch.len()) {
             return Err(refusal);
         }
-        Ok(bound(self, x, term, scratch))
+        Ok(bound_in(self, x, term, scratch))
     }
 }
 
 // The same, where nothing is refused.
-fn bound(d: &Description, x: u8, term: Term, scratch: &mut [u8]) -> Description
+fn bound_in(d: &Description, x: u8, term: Term, scratch: &mut [u8]) -> Description
     requires { ⌜ x < told (now d) .n ⌝ ∗ ⌜ term .held < 2 ^ told (now d) .n ⌝ ∗ ⌜ (term .bare ≡ true → ones (term .held) ≡ 1) ⌝ ∗ ⌜ 512 ≤ length (now scratch) ⌝ }
     ensures { λ r. ⌜ Bound (told (now (d .entry))) x term (told r) ⌝ }
 {
-    let signs = signs_of(d, x, term);
-    let case = chosen(signs);
-    rewrite(d, x, term.held, case, scratch);
-    let table = copied(scratch);
-    let free = stays_free(d, x, term, signs);
-    let linear = stays_linear(d, x, term, signs) | free | ground_mask(&table, d.positions);
+    let work = &mut scratch[0..512];
+    work.copy_from_slice(&d.table);
+    let marks = bound(work, d.marks(), x, term);
     Description {
-        positions: d.positions,
-        table,
-        free,
-        linear,
+        positions: marks.positions,
+        table: copied(work),
+        free: marks.free,
+        linear: marks.linear,
     }
 }

@@ -18,29 +18,18 @@ impl Description {
     pub fn new(positions: u8) -> Result<Description, Refusal>
         ensures { λ r. ⌜ Gives (firstOf (openTests positions)) r (λ e. New positions (told e)) ⌝ }
     {
-        if positions == 0 {
+        if positions == 0 || positions > 12 {
             return Err(Refusal::Count);
         }
-        if positions > 12 {
-            return Err(Refusal::Count);
-        }
-        Ok(opened(positions))
-    }
-}
-
-// The same, for a number of positions that there can be.
-fn opened(positions: u8) -> Description
-    requires { ⌜ 0 < positions ⌝ ∗ ⌜ positions < 13 ⌝ }
-    ensures { λ r. ⌜ New positions (told r) ⌝ }
-{
-    let mut table = [0; 512];
-    put_singles(&mut table, positions);
-    let all = mask::all(positions);
-    Description {
-        positions,
-        table,
-        free: all,
-        linear: all,
+        let mut table = [0; 512];
+        put_singles(&mut table, positions);
+        let all = mask::all(positions);
+        Ok(Description {
+            positions,
+            table,
+            free: all,
+            linear: all,
+        })
     }
 }
 

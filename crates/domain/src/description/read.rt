@@ -5,8 +5,10 @@ ghost use Rattle.domain.specs.Descriptions.{told};
 use super::Description;
 
 impl Description {
+    // The number of positions. Every description keeps the rules.
     pub fn positions(&self) -> u8
-        ensures { λ r. ⌜ r ≡ told (now (self .entry)) .n ⌝ }
+        ensures count { λ r. ⌜ r ≡ told (now (self .entry)) .n ⌝ }
+        ensures lawful { λ r. ⌜ Lawful (told (now (self .entry))) ⌝ }
     {
         self.positions
     }
@@ -22,9 +24,4 @@ impl Description {
     {
         self.linear
     }
-
-    // Every description keeps the rules. Nothing runs here: a caller learns it.
-    pub fn lawful(&self)
-        ensures { λ _. ⌜ Lawful (told (now (self .entry))) ⌝ }
-    {}
 }

@@ -1,7 +1,7 @@
 // Which of the five cases applies.
 ghost use Prim.Native.Nat.{_<_, _^_};
-ghost use Rattle.domain.specs.Descriptions.{told};
 ghost use Rattle.domain.specs.Signs.{Chosen, Seen};
+ghost use Rattle.domain.specs.Tables.{toldWith};
 ghost use lib.Count.{ones};
 ghost use mathlib.Core.Bool.{true};
 ghost use mathlib.Core.Path.{_≡_};
@@ -10,23 +10,23 @@ use super::linear::is_linear;
 use super::signs::Sign;
 use super::signs::Signs;
 use crate::case::Case;
-use crate::description::Description;
+use crate::marks::Marks;
 use crate::mask::has;
 use crate::term::Term;
 
 // What the rule asks of the position and of the term.
-pub(crate) fn signs_of(d: &Description, x: u8, term: Term) -> Signs
-    requires { ⌜ x < 16 ⌝ ∗ ⌜ term .held < 2 ^ told (now d) .n ⌝ ∗ ⌜ (term .bare ≡ true → ones (term .held) ≡ 1) ⌝ }
-    ensures { λ r. ⌜ Seen (told (now (d .entry))) x term r ⌝ }
+pub(crate) fn signs_of(table: &[u8], marks: Marks, x: u8, term: Term) -> Signs
+    requires { ⌜ marks .positions < 13 ⌝ ∗ ⌜ x < 16 ⌝ ∗ ⌜ term .held < 2 ^ marks .positions ⌝ ∗ ⌜ (term .bare ≡ true → ones (term .held) ≡ 1) ⌝ }
+    ensures { λ r. ⌜ Seen (toldWith marks (now (table .entry))) x term r ⌝ }
 {
     Signs {
         position: Sign {
-            free: has(d.free_mask(), x),
-            linear: has(d.linear_mask(), x),
+            free: has(marks.free, x),
+            linear: has(marks.linear, x),
         },
         term: Sign {
-            free: is_free(d, term),
-            linear: is_linear(d, term),
+            free: is_free(marks, term),
+            linear: is_linear(table, marks, term),
         },
     }
 }

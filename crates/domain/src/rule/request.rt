@@ -1,6 +1,6 @@
-// What a bind refuses, in its order.
+// What a bind and a forget refuse, in their order.
 ghost use Rattle.domain.specs.Refusals.{firstOf};
-ghost use Rattle.domain.specs.Requests.{bindTests, illTerm, reaches};
+ghost use Rattle.domain.specs.Requests.{bindTests, forgetTests, illTerm, reaches};
 ghost use Prim.Native.Nat.{_<_};
 ghost use mathlib.Core.Path.{_≡_};
 use crate::mask::single;
@@ -28,11 +28,25 @@ pub(crate) fn refusal_of(positions: u8, x: u8, term: Term, scratch: usize) -> Op
 }
 
 // Whether the mask has a position of n or more.
-fn exceeds(n: u8, mask: u16) -> bool
+pub(crate) fn exceeds(n: u8, mask: u16) -> bool
     requires { ⌜ n < 16 ⌝ }
     ensures { λ r. ⌜ r ≡ reaches n mask ⌝ }
 {
     mask >= 1 << n
+}
+
+// The refusal of a forget, if there is one.
+pub(crate) fn forget_refusal(positions: u8, mask: u16, scratch: usize) -> Option<Refusal>
+    requires { ⌜ positions < 13 ⌝ }
+    ensures { λ r. ⌜ r ≡ firstOf (forgetTests positions mask scratch) ⌝ }
+{
+    if exceeds(positions, mask) {
+        return Some(Refusal::Position);
+    }
+    if scratch < 512 {
+        return Some(Refusal::Room);
+    }
+    None
 }
 
 // Whether the masks are none that a term can have.

@@ -1,32 +1,23 @@
-// The table of the groups after a bind.
+// The table after a bind, in place of the one before it.
 ghost use Prim.Native.Nat.{ℕ, _<_, _≤_, _^_};
 ghost use Rattle.domain.specs.Binding.{NewGroup};
-ghost use Rattle.domain.specs.Descriptions.{told, GroupOf};
-ghost use Rattle.domain.specs.Tables.{holdsBit};
+ghost use Rattle.domain.specs.Tables.{holdsBit, toldWith};
+ghost use Rattle.domain.specs.Told.{Group};
 ghost use Rattle.std.specs.Orderings.{Decides};
-ghost use lib.ListN.{length, take};
-ghost use mathlib.Core.Path.{_≡_};
+ghost use lib.ListN.{length};
 use super::made::becomes_group;
 use crate::case::Case;
-use crate::description::Description;
+use crate::marks::Marks;
 use crate::table;
 
-// Writes the bit of every mask that can be a group. The old table stays as it is while its groups are read.
-pub(crate) fn rewrite(d: &Description, x: u8, held: u16, case: Case, scratch: &mut [u8])
-    requires { ⌜ x < 16 ⌝ ∗ ⌜ 512 ≤ length (now scratch) ⌝ }
-    ensures { λ _. ⌜ ((u : ℕ) → 0 < u → u < 2 ^ told (now (d .entry)) .n → Decides (holdsBit (now (scratch .exit)) u) (NewGroup (GroupOf (now (d .entry))) x held case u)) ⌝ }
+// Writes the bit of every mask that can be a group. The test of a mask reads only its subsets, none of
+// which is a larger number, so from the largest mask downwards it reads what is not yet written.
+pub(crate) fn rewrite(table: &mut [u8], marks: Marks, x: u8, held: u16, case: Case)
+    requires { ⌜ marks .positions < 13 ⌝ ∗ ⌜ x < 16 ⌝ ∗ ⌜ 512 ≤ length (now table) ⌝ }
+    ensures { λ _. ⌜ ((u : ℕ) → 0 < u → u < 2 ^ marks .positions → Decides (holdsBit (now (table .exit)) u) (NewGroup (Group (toldWith marks (now (table .entry)))) x held case u)) ⌝ }
 {
-    for u in 1..1u16 << d.positions() {
-        table::put(scratch, u, becomes_group(d, x, held, case, u));
+    for u in (1..1u16 << marks.positions).rev() {
+        let on = becomes_group(table, marks, x, held, case, u);
+        table::put(table, u, on);
     }
-}
-
-// The first 512 bytes of the scratch, as a table.
-pub(crate) fn copied(scratch: &[u8]) -> [u8; 512]
-    requires { ⌜ 512 ≤ length (now scratch) ⌝ }
-    ensures { λ r. ⌜ r ≡ take 512 (now (scratch .entry)) ⌝ }
-{
-    let mut table = [0; 512];
-    table.copy_from_slice(&scratch[0..512]);
-    table
 }

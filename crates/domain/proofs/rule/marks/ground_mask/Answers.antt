@@ -1,4 +1,4 @@
-use Rattle.domain.proofs.Marks.{ground-made, ground-all}
+use Rattle.domain.proofs.Staying.{ground-made, ground-all}
 use Rattle.domain.proofs.rule.marks.ground_mask.Needs as need
 
 pub returns : need.returns

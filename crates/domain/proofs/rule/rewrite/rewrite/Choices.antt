@@ -1,11 +1,10 @@
-use Prim.Native.Nat.{ℕ, _<_}
-use Rattle.std.specs.Orderings.{Decides}
+use Prim.Native.Nat.{_^_}
 use Rattle.domain.specs.Binding.{NewGroup}
-use Rattle.domain.specs.Descriptions.{told}
-use Rattle.domain.specs.Tables.{holdsBit}
+use Rattle.domain.specs.Tables.{toldWith}
 use Rattle.domain.specs.Told.{Group}
+use Rattle.domain.proofs.Tables.{Written}
 use Rattle.domain.proofs.rule.rewrite.rewrite.Given as given
 
 abbrev pub Inv-loop-u : given.InvT-loop-u
 Inv-loop-u l =
-    (g : ℕ) → 0 < g → g < l .u → Decides (holdsBit (l .scratch) g) (NewGroup (Group (told (l .d))) (l .x) (l .held) (l .case) g)
+    Written (NewGroup (Group (toldWith (l .marks) (l .entry .table))) (l .x) (l .held) (l .case)) (l .entry .table) (l .table) (l .u) (2 ^ l .marks .positions)
