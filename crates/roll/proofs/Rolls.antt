@@ -16,7 +16,7 @@ use Rattle.std.proofs.shelf.Edits.{drop-paste}
 use Rattle.std.proofs.shelf.Elements.{all-weaker}
 use Rattle.std.proofs.shelf.Tests.{ltb-true, ltb-false, lt-ltb, le-ltb, false≢true, cond-true, cond-false, cond-both}
 use Rattle.roll.specs.declared.added.Added.the-variants as added
-use Rattle.roll.specs.Rolls.{Holds, here, there, Counts, none, one-more, as-many, Ascending, place, insert, Adds}
+use Rattle.roll.specs.Rolls.{Holds, here, there, Counts, none, one-more, as-many, Ascending, place, insert, InOrder, Adds, Member}
 
 module _ {X K : Type 0} (key : X → K) (k : K) where
   -- one of the entries has the key
@@ -183,7 +183,7 @@ holds-rank key rank apart k (there h) = there (holds-rank key rank apart k h)
 module _ {X K : Type 0} (key : X → K) (rank : K → ℕ) (x : X) (used : ℕ) (xs ys : List X) (p : ℕ) where
   stands :
       (Holds key (key x) (take used xs) → ⊥) → used < length xs → p ≡ place (λ e. rank (key e)) (rank (key x)) (take used xs) →
-      ys ≡ paste xs (p + 1) (drop p xs) (used - p) → Adds key (λ e. rank (key e)) x used xs (set ys p x) added.Added
+      ys ≡ paste xs (p + 1) (drop p xs) (used - p) → Adds key rank x used xs (set ys p x) added.Added
   stands fresh room first moved =
       let within = place-le (λ e. rank (key e)) (rank (key x)) (take used xs) in
       let le : p ≤ used = omega (arith, within, first, length-take-le used xs (omega arith)) in
@@ -198,6 +198,18 @@ module _ {X K : Type 0} (key : X → K) (rank : K → ℕ) (x : X) (used : ℕ) 
   pub added-there :
       (u r : ℕ) (k : K) → u ≡ used → k ≡ key x → r ≡ rank k → (Holds key k (take u xs) → false ≡ true) → used < length xs →
       p ≡ place (λ e. rank (key e)) r (take u xs) → ys ≡ paste xs (p + 1) (drop p xs) (used - p) →
-      Adds key (λ e. rank (key e)) x used xs (set ys p x) added.Added
+      Adds key rank x used xs (set ys p x) added.Added
   added-there u r k same-part same-key same-rank not-held room first moved =
       stands (λ h. false≢true (not-held (rw (same-part, same-key) h))) room (first ∙ rw (same-part, same-rank, same-key)) moved
+
+-- an entry that was added leaves the list in order, and no entry is lost
+module _ {X K : Type 0} (key : X → K) (rank : K → ℕ) (x : X) (used : ℕ) (xs ys : List X) (a : Adds key rank x used xs ys added.Added) where
+  pub added-in-order :
+      ((j k : K) → rank j ≡ rank k → j ≡ k) → InOrder key rank (take used xs) → InOrder key rank (take (used + 1) ys)
+  added-in-order apart up =
+      subst (Ascending (λ e. rank (key e))) (sym (a .2))
+      (insert-ascending (λ e. rank (key e)) x (take used xs) (λ h. a .0 (holds-rank key rank apart (key x) h)) up)
+
+  pub added-kept : (e : X) → Member e (take used xs) → Member e (take (used + 1) ys)
+  added-kept e h =
+      subst (λ (l : List X). Member e l) (sym (a .2)) (insert-holds (λ e. rank (key e)) x (λ y. y) e (take used xs) h)

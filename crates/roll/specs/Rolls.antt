@@ -20,7 +20,7 @@ pub data Counts {X K : Type 0} (key : X → K) (k : K) : List X → ℕ → Type
   one-more : {x : X} {xs : List X} {n : ℕ} → key x ≡ k → Counts key k xs n → Counts key k (x ∷ xs) (suc n)
   as-many : {x : X} {xs : List X} {n : ℕ} → (key x ≡ k → ⊥) → Counts key k xs n → Counts key k (x ∷ xs) n
 
--- the keys rise
+-- the numbers that the entries stand for rise
 abbrev pub Ascending : {X : Type 0} → (X → ℕ) → List X → Type 0
 Ascending rank [] = Unit {0}
 Ascending rank (x ∷ xs) = All (λ y. rank x < rank y) xs × Ascending rank xs
@@ -35,14 +35,18 @@ abbrev pub insert : {X : Type 0} → (X → ℕ) → X → List X → List X
 insert rank x [] = x ∷ []
 insert rank x (y ∷ ys) = cond (ltb (rank x) (rank y)) (x ∷ (y ∷ ys)) (y ∷ insert rank x ys)
 
+-- the ranks of the keys rise
+abbrev pub InOrder : {X K : Type 0} → (X → K) → (K → ℕ) → List X → Type 0
+InOrder key rank xs = Ascending (λ e. rank (key e)) xs
+
 -- What adding an entry does to a slice whose first `used` entries are in use. Where the key is held,
 -- or else no entry is left over, nothing changes; otherwise the entry stands in its place among those
 -- in use, and the entries behind are kept.
-abbrev pub Adds : {X K : Type 0} → (X → K) → (X → ℕ) → X → ℕ → List X → List X → Added → Type 0
+abbrev pub Adds : {X K : Type 0} → (X → K) → (K → ℕ) → X → ℕ → List X → List X → Added → Type 0
 Adds key rank entry used before after added.Added =
     (Holds key (key entry) (take used before) → ⊥)
     × (used < length before)
-    × (take (used + 1) after ≡ insert rank entry (take used before))
+    × (take (used + 1) after ≡ insert (λ e. rank (key e)) entry (take used before))
     × (drop (used + 1) after ≡ drop (used + 1) before)
 Adds key rank entry used before after added.Held =
     Holds key (key entry) (take used before) × (after ≡ before)

@@ -1,8 +1,8 @@
 // Adding, over a lent slice whose entries in use stand at its start.
 ghost use mathlib.Core.Path.{_≡_};
-ghost use Prim.Native.Nat.{ℕ, _+_, _≤_};
-ghost use lib.ListN.{length, take};
-ghost use Rattle.roll.specs.Rolls.{Adds, Ascending, Member, place, usedAfter};
+ghost use Prim.Native.Nat.{_≤_};
+ghost use lib.ListN.{length};
+ghost use Rattle.roll.specs.Rolls.{Adds, place};
 use crate::added::Added;
 use crate::key::Keyed;
 use crate::key::Ranked;
@@ -28,7 +28,7 @@ pub(crate) fn insert<T: Keyed + Copy>(entries: &mut [T], used: usize, entry: T) 
 where
     T::Key: Ranked,
     requires { ⌜ used ≤ length (now entries) ⌝ }
-    ensures adds { λ r. ⌜ Adds (T·Keyed .key) (λ e. Key·Ranked .rank (T·Keyed .key e)) entry used (now (entries .entry)) (now (entries .exit)) r ⌝ }
+    ensures adds { λ r. ⌜ Adds (T·Keyed .key) (Key·Ranked .rank) entry used (now (entries .entry)) (now (entries .exit)) r ⌝ }
 {
     let key = entry.key();
     if holds_key(&entries[0..used], &key) {

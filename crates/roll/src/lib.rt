@@ -4,3 +4,5 @@ pub mod insertion;
 pub mod key;
 pub mod roll;
 pub mod search;
+#[cfg(test)]
+mod tests;

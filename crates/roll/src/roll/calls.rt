@@ -1,10 +1,9 @@
 // The calls of a roll.
 ghost use mathlib.Core.Path.{_≡_};
-ghost use Prim.Native.Nat.{ℕ, _+_, _≤_};
 ghost use denote.Ref.{name};
 ghost use lib.ListN.{length, take};
 ghost use Rattle.std.specs.Orderings.{Decides};
-ghost use Rattle.roll.specs.Rolls.{Adds, Ascending, Counts, Holds, Member, usedAfter};
+ghost use Rattle.roll.specs.Rolls.{Adds, Counts, Holds, InOrder, Member, usedAfter};
 use crate::added::Added;
 use crate::insertion::insert;
 use crate::key::Keyed;
@@ -60,9 +59,9 @@ where
 {
     // Adds an entry in its place. An ascending roll stays ascending, and no entry in use is lost.
     pub fn add(&mut self, entry: T) -> Added
-        ensures adds { λ r. ⌜ Adds (T·Keyed .key) (λ e. Key·Ranked .rank (T·Keyed .key e)) entry (now (self .entry) .used) (now (now (self .entry) .entries)) (now (now (self .exit) .entries)) r ⌝ }
+        ensures adds { λ r. ⌜ Adds (T·Keyed .key) (Key·Ranked .rank) entry (now (self .entry) .used) (now (now (self .entry) .entries)) (now (now (self .exit) .entries)) r ⌝ }
         ensures counted { λ r. ⌜ now (self .exit) .used ≡ usedAfter (now (self .entry) .used) r ⌝ }
-        ensures ordered { λ r. ⌜ (Ascending (λ e. Key·Ranked .rank (T·Keyed .key e)) (take (now (self .entry) .used) (now (now (self .entry) .entries))) → Ascending (λ e. Key·Ranked .rank (T·Keyed .key e)) (take (now (self .exit) .used) (now (now (self .exit) .entries)))) ⌝ }
+        ensures ordered { λ r. ⌜ (InOrder (T·Keyed .key) (Key·Ranked .rank) (take (now (self .entry) .used) (now (now (self .entry) .entries))) → InOrder (T·Keyed .key) (Key·Ranked .rank) (take (now (self .exit) .used) (now (now (self .exit) .entries)))) ⌝ }
         ensures kept { λ r. ⌜ ((e : T) → Member e (take (now (self .entry) .used) (now (now (self .entry) .entries))) → Member e (take (now (self .exit) .used) (now (now (self .exit) .entries)))) ⌝ }
         ensures lent { λ _. ⌜ name (now (self .exit) .entries) ≡ name (now (self .entry) .entries) ⌝ }
     {
