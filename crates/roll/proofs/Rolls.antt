@@ -158,8 +158,8 @@ module _ {X : Type 0} (rank : X → ℕ) (x : X) where
       cond-both (ltb (rank x) (rank y)) (x ∷ (y ∷ ys)) (y ∷ insert rank x ys) (Ascending rank)
       (λ e. let lt = ltb-true (rank x) (rank y) e in ((lt, all-weaker (λ z. rank y < rank z) (λ z. rank x < rank z) (λ z h. omega arith) ys (up .0)), up))
       (λ e. let le = ltb-false (rank x) (rank y) e in
-            let ne : rank y ≡ rank x → ⊥ = λ s. fresh (here s) in
-            (all-insert (λ z. rank y < rank z) (omega arith) ys (up .0), insert-ascending ys (λ h. fresh (there h)) (up .1)))
+      let ne : rank y ≡ rank x → ⊥ = λ s. fresh (here s) in
+      (all-insert (λ z. rank y < rank z) (omega arith) ys (up .0), insert-ascending ys (λ h. fresh (there h)) (up .1)))
 
   -- every key that the list held is held, and the new one's
   pub insert-holds : {K : Type 0} (key : X → K) (k : K) (xs : List X) → Holds key k xs → Holds key k (insert rank x xs)
@@ -187,12 +187,13 @@ module _ {X K : Type 0} (key : X → K) (rank : K → ℕ) (x : X) (used : ℕ) 
   stands fresh room first moved =
       let within = place-le (λ e. rank (key e)) (rank (key x)) (take used xs) in
       let le : p ≤ used = omega (arith, within, first, length-take-le used xs (omega arith)) in
-      let e = ap (λ (l : List X). set l p x) moved in
-      ( fresh
-      , room
-      , ap (take (used + 1)) e ∙ moved-front xs p used x le room ∙ ap (λ (q : ℕ). inserted (take used xs) q x) first
-        ∙ sym (insert-is (λ e. rank (key e)) x (take used xs))
-      , ap (drop (used + 1)) e ∙ moved-back xs p used x le room )
+      let e = ap (λ (l : List X). set l p x) moved in (
+        fresh,
+        room,
+        ap (take (used + 1)) e ∙ moved-front xs p used x le room ∙ ap (λ (q : ℕ). inserted (take used xs) q x) first
+            ∙ sym (insert-is (λ e. rank (key e)) x (take used xs)),
+        ap (drop (used + 1)) e ∙ moved-back xs p used x le room,
+      )
 
   -- with the key k and its rank r as the code has read them, and the part of the slice up to u
   pub added-there :

@@ -7,6 +7,7 @@ mod calls;
 
 // A roll: an ordered list over lent memory. The entries in use stand at the start of the slice, in
 // ascending order of their keys, and those behind them are spare.
+#[derive(Drop)]
 pub struct Roll<'a, T> {
     entries: &'a mut [T],
     used: usize,

@@ -1,9 +1,10 @@
 // The calls of a roll.
 ghost use mathlib.Core.Path.{_≡_};
 ghost use denote.Ref.{name};
-ghost use lib.ListN.{length, take};
+ghost use lib.ListN.{length};
 ghost use Rattle.std.specs.Orderings.{Decides};
 ghost use Rattle.roll.specs.Rolls.{Adds, Counts, Holds, InOrder, Member, usedAfter};
+ghost use Rattle.roll.specs.Views.{inUse, slots};
 use crate::added::Added;
 use crate::insertion::insert;
 use crate::key::Keyed;
@@ -17,7 +18,7 @@ impl<'a, T> Roll<'a, T> {
     pub fn over(entries: &'a mut [T]) -> Roll<'a, T>
         ensures empty { λ r. ⌜ r .used ≡ 0 ⌝ }
         ensures lent { λ r. ⌜ name (r .entries) ≡ name (entries .entry) ⌝ }
-        ensures same { λ r. ⌜ now (r .entries) ≡ now (entries .entry) ⌝ }
+        ensures same { λ r. ⌜ slots r ≡ now (entries .entry) ⌝ }
     {
         Roll { entries, used: 0 }
     }
@@ -31,23 +32,30 @@ impl<'a, T> Roll<'a, T> {
 
     // How many entries are there, in use or spare?
     pub fn capacity(&self) -> usize
-        ensures { λ r. ⌜ r ≡ length (now (now (self .entry) .entries)) ⌝ }
+        ensures { λ r. ⌜ r ≡ length (slots (now (self .entry))) ⌝ }
     {
         self.entries.len()
+    }
+
+    // The entries in use, in their order.
+    pub fn in_use(&self) -> &[T]
+        ensures { λ r. ⌜ now r ≡ inUse (now (self .entry)) ⌝ }
+    {
+        &self.entries[0..self.used]
     }
 }
 
 impl<T: Keyed> Roll<'_, T> {
     // Does some entry in use have the key?
     pub fn holds(&self, key: &T::Key) -> bool
-        ensures { λ r. ⌜ Decides r (Holds (T·Keyed .key) (now (key .entry)) (take (now (self .entry) .used) (now (now (self .entry) .entries)))) ⌝ }
+        ensures { λ r. ⌜ Decides r (Holds (T·Keyed .key) (now (key .entry)) (inUse (now (self .entry)))) ⌝ }
     {
         holds_key(&self.entries[0..self.used], key)
     }
 
     // How many entries in use have the key?
     pub fn count(&self, key: &T::Key) -> usize
-        ensures { λ r. ⌜ Counts (T·Keyed .key) (now (key .entry)) (take (now (self .entry) .used) (now (now (self .entry) .entries))) r ⌝ }
+        ensures { λ r. ⌜ Counts (T·Keyed .key) (now (key .entry)) (inUse (now (self .entry))) r ⌝ }
     {
         count_key(&self.entries[0..self.used], key)
     }
@@ -59,10 +67,10 @@ where
 {
     // Adds an entry in its place. An ascending roll stays ascending, and no entry in use is lost.
     pub fn add(&mut self, entry: T) -> Added
-        ensures adds { λ r. ⌜ Adds (T·Keyed .key) (Key·Ranked .rank) entry (now (self .entry) .used) (now (now (self .entry) .entries)) (now (now (self .exit) .entries)) r ⌝ }
+        ensures adds { λ r. ⌜ Adds (T·Keyed .key) (Key·Ranked .rank) entry (now (self .entry) .used) (slots (now (self .entry))) (slots (now (self .exit))) r ⌝ }
         ensures counted { λ r. ⌜ now (self .exit) .used ≡ usedAfter (now (self .entry) .used) r ⌝ }
-        ensures ordered { λ r. ⌜ (InOrder (T·Keyed .key) (Key·Ranked .rank) (take (now (self .entry) .used) (now (now (self .entry) .entries))) → InOrder (T·Keyed .key) (Key·Ranked .rank) (take (now (self .exit) .used) (now (now (self .exit) .entries)))) ⌝ }
-        ensures kept { λ r. ⌜ ((e : T) → Member e (take (now (self .entry) .used) (now (now (self .entry) .entries))) → Member e (take (now (self .exit) .used) (now (now (self .exit) .entries)))) ⌝ }
+        ensures ordered { λ r. ⌜ (InOrder (T·Keyed .key) (Key·Ranked .rank) (inUse (now (self .entry))) → InOrder (T·Keyed .key) (Key·Ranked .rank) (inUse (now (self .exit)))) ⌝ }
+        ensures kept { λ r. ⌜ ((e : T) → Member e (inUse (now (self .entry))) → Member e (inUse (now (self .exit)))) ⌝ }
         ensures lent { λ _. ⌜ name (now (self .exit) .entries) ≡ name (now (self .entry) .entries) ⌝ }
     {
         let Roll { entries, used } = self;

@@ -10,18 +10,21 @@ loop-entry-holds g c = (omega arith, none)
 
 pub loop-entry-again : need.loop-entry-again
 loop-entry-again g c =
-    elim (c .if-has-key .came)
-    [ then-has-key w ↦
-        ( omega (arith, w .count-is)
-        , rw (w .count-is)
-          (counts-more-one _ _ (c .args .entries .now) (c .loop-entry .entry-index) _ _ (omega arith) (c .entry-item .is) (c .has-key .ensures .0 (w .if-has-key .taken))
-           (c .loop-entry .inv .1)) )
-    | else-has-key w ↦
-        ( omega (arith, w .count-is)
-        , rw (w .count-is)
-          (counts-more-other _ _ (c .args .entries .now) (c .loop-entry .entry-index) _ _ (omega arith) (c .entry-item .is)
-           (λ e. both-ways _ (w .if-has-key .left) (c .has-key .ensures .1 e))
-           (c .loop-entry .inv .1)) ) ]
+    elim (c .if-has-key .came) [
+      | then-has-key w ↦ (
+        omega (arith, w .count-is),
+        rw (w .count-is)
+            (counts-more-one _ _ (c .args .entries .now) (c .loop-entry .entry-index) _ _ (omega arith) (c .entry-item .is) (c .has-key .ensures .0 (w .if-has-key .taken))
+            (c .loop-entry .inv .1)),
+      )
+      | else-has-key w ↦ (
+        omega (arith, w .count-is),
+        rw (w .count-is)
+            (counts-more-other _ _ (c .args .entries .now) (c .loop-entry .entry-index) _ _ (omega arith) (c .entry-item .is)
+            (λ e. both-ways _ (w .if-has-key .left) (c .has-key .ensures .1 e))
+            (c .loop-entry .inv .1)),
+      )
+    ]
 
 pub returns : need.returns
 returns g c = counts-all _ _ (c .args .entries .now) (c .loop-entry .entry-index) _ (c .loop-entry-test .left) (c .loop-entry .inv .1)

@@ -7,9 +7,10 @@ use Rattle.roll.proofs.Rolls.{holds-at, holds-later, holds-none}
 use Rattle.roll.proofs.search.holds_key.Needs as need
 
 pub returns-then-has-key : need.returns-then-has-key
-returns-then-has-key g c =
-    ( (λ _. holds-at _ _ _ _ _ (omega arith) (c .entry-item .is) (c .has-key .ensures .0 (c .if-has-key .taken)))
-    , λ _. refl )
+returns-then-has-key g c = (
+  (λ _. holds-at _ _ _ _ _ (omega arith) (c .entry-item .is) (c .has-key .ensures .0 (c .if-has-key .taken))),
+  λ _. refl,
+)
 
 pub loop-entry-again : need.loop-entry-again
 loop-entry-again g c =
@@ -19,6 +20,7 @@ loop-entry-again g c =
     (c .loop-entry .inv h)
 
 pub returns : need.returns
-returns g c =
-    ( (λ e. absurd (false≢true e))
-    , λ h. absurd (holds-none _ _ (subst (Holds _ _) (drop-all _ _ (c .loop-entry-test .left)) (c .loop-entry .inv h))) )
+returns g c = (
+  (λ e. absurd (false≢true e)),
+  λ h. absurd (holds-none _ _ (subst (Holds _ _) (drop-all _ _ (c .loop-entry-test .left)) (c .loop-entry .inv h))),
+)
