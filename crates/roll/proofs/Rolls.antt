@@ -3,7 +3,6 @@
 use mathlib.Core.Path.{_≡_, refl, sym, ap, subst, _∙_}
 use mathlib.Core.List.{List, [], _∷_, _++_}
 use mathlib.Core.Bool.{Bool, true, false, cond}
-use mathlib.Core.Logic.{_⊎_, inl, inr}
 use Prim.Native.Nat.{ℕ, suc, zero, _+_, _-_, _<_, _≤_}
 use native.Mathlib.Omega.{arith}
 use native.Mathlib.Numerals.{add-one, one-add}
@@ -15,8 +14,7 @@ use Rattle.std.proofs.shelf.Lists.{append-assoc, drop-more, take-more, take-all
 use Rattle.std.proofs.shelf.Edits.{drop-paste}
 use Rattle.std.proofs.shelf.Elements.{all-weaker}
 use Rattle.std.proofs.shelf.Tests.{ltb-true, ltb-false, lt-ltb, le-ltb, false≢true, cond-true, cond-false, cond-both}
-use Rattle.roll.specs.declared.added.Added.the-variants as added
-use Rattle.roll.specs.Rolls.{Holds, here, there, Counts, none, one-more, as-many, Ascending, place, insert, InOrder, Adds, Member}
+use Rattle.roll.specs.Rolls.{Holds, here, there, Counts, none, one-more, as-many, Ascending, place, insert, InOrder, Joins, Member}
 
 module _ {X K : Type 0} (key : X → K) (k : K) where
   -- one of the entries has the key
@@ -37,11 +35,6 @@ module _ {X K : Type 0} (key : X → K) (k : K) where
 
   pub holds-none : Holds key k [] → ⊥
   holds-none h = elim h [ ]
-
-  pub counts-le : {xs : List X} {n : ℕ} → Counts key k xs n → n ≤ length xs
-  counts-le none = omega arith
-  counts-le (one-more e c) = let r = counts-le c in omega arith
-  counts-le (as-many e c) = let r = counts-le c in omega arith
 
   counts-push-one : (x : X) {xs : List X} {n : ℕ} → key x ≡ k → Counts key k xs n → Counts key k (xs ++ x ∷ []) (suc n)
   counts-push-one x e none = one-more e none
@@ -161,18 +154,12 @@ module _ {X : Type 0} (rank : X → ℕ) (x : X) where
       let ne : rank y ≡ rank x → ⊥ = λ s. fresh (here s) in
       (all-insert (λ z. rank y < rank z) (omega arith) ys (up .0), insert-ascending ys (λ h. fresh (there h)) (up .1)))
 
-  -- every key that the list held is held, and the new one's
+  -- every key that the list held is held
   pub insert-holds : {K : Type 0} (key : X → K) (k : K) (xs : List X) → Holds key k xs → Holds key k (insert rank x xs)
   insert-holds key k [] h = elim h [ ]
   insert-holds key k (y ∷ ys) h =
       elim (ltb (rank x) (rank y)) as (λ v. Holds key k (cond v (x ∷ (y ∷ ys)) (y ∷ insert rank x ys)))
       [ true ↦ there h | false ↦ elim h [ here e ↦ here e | there t ↦ there (insert-holds key k ys t) ] ]
-
-  pub insert-has : {K : Type 0} (key : X → K) (xs : List X) → Holds key (key x) (insert rank x xs)
-  insert-has key [] = here refl
-  insert-has key (y ∷ ys) =
-      elim (ltb (rank x) (rank y)) as (λ v. Holds key (key x) (cond v (x ∷ (y ∷ ys)) (y ∷ insert rank x ys)))
-      [ true ↦ here refl | false ↦ there (insert-has key ys) ]
 
 -- ranks tell keys apart
 pub holds-rank : {X K : Type 0} (key : X → K) (rank : K → ℕ) → ((a b : K) → rank a ≡ rank b → a ≡ b) → (k : K) {xs : List X} → Holds (λ e. rank (key e)) (rank k) xs → Holds key k xs
@@ -183,34 +170,36 @@ holds-rank key rank apart k (there h) = there (holds-rank key rank apart k h)
 module _ {X K : Type 0} (key : X → K) (rank : K → ℕ) (x : X) (used : ℕ) (xs ys : List X) (p : ℕ) where
   stands :
       (Holds key (key x) (take used xs) → ⊥) → used < length xs → p ≡ place (λ e. rank (key e)) (rank (key x)) (take used xs) →
-      ys ≡ paste xs (p + 1) (drop p xs) (used - p) → Adds key rank x used xs (set ys p x) added.Added
+      ys ≡ paste xs (p + 1) (drop p xs) (used - p) → Joins key rank x used xs (set ys p x)
   stands fresh room first moved =
       let within = place-le (λ e. rank (key e)) (rank (key x)) (take used xs) in
       let le : p ≤ used = omega (arith, within, first, length-take-le used xs (omega arith)) in
-      let e = ap (λ (l : List X). set l p x) moved in (
-        fresh,
-        room,
-        ap (take (used + 1)) e ∙ moved-front xs p used x le room ∙ ap (λ (q : ℕ). inserted (take used xs) q x) first
-            ∙ sym (insert-is (λ e. rank (key e)) x (take used xs)),
-        ap (drop (used + 1)) e ∙ moved-back xs p used x le room,
-      )
+      let e = ap (λ (l : List X). set l p x) moved in
+      record {
+        fresh = fresh;
+        room = room;
+        listed =
+            ap (take (used + 1)) e ∙ moved-front xs p used x le room ∙ ap (λ (q : ℕ). inserted (take used xs) q x) first
+            ∙ sym (insert-is (λ e. rank (key e)) x (take used xs));
+        spare = ap (drop (used + 1)) e ∙ moved-back xs p used x le room;
+      }
 
   -- with the key k and its rank r as the code has read them, and the part of the slice up to u
   pub added-there :
       (u r : ℕ) (k : K) → u ≡ used → k ≡ key x → r ≡ rank k → (Holds key k (take u xs) → false ≡ true) → used < length xs →
       p ≡ place (λ e. rank (key e)) r (take u xs) → ys ≡ paste xs (p + 1) (drop p xs) (used - p) →
-      Adds key rank x used xs (set ys p x) added.Added
+      Joins key rank x used xs (set ys p x)
   added-there u r k same-part same-key same-rank not-held room first moved =
       stands (λ h. false≢true (not-held (rw (same-part, same-key) h))) room (first ∙ rw (same-part, same-rank, same-key)) moved
 
 -- an entry that was added leaves the list in order, and no entry is lost
-module _ {X K : Type 0} (key : X → K) (rank : K → ℕ) (x : X) (used : ℕ) (xs ys : List X) (a : Adds key rank x used xs ys added.Added) where
+module _ {X K : Type 0} (key : X → K) (rank : K → ℕ) (x : X) (used : ℕ) (xs ys : List X) (a : Joins key rank x used xs ys) where
   pub added-in-order :
       ((j k : K) → rank j ≡ rank k → j ≡ k) → InOrder key rank (take used xs) → InOrder key rank (take (used + 1) ys)
   added-in-order apart up =
-      subst (Ascending (λ e. rank (key e))) (sym (a .2))
-      (insert-ascending (λ e. rank (key e)) x (take used xs) (λ h. a .0 (holds-rank key rank apart (key x) h)) up)
+      subst (Ascending (λ e. rank (key e))) (sym (a .listed))
+      (insert-ascending (λ e. rank (key e)) x (take used xs) (λ h. a .fresh (holds-rank key rank apart (key x) h)) up)
 
   pub added-kept : (e : X) → Member e (take used xs) → Member e (take (used + 1) ys)
   added-kept e h =
-      subst (λ (l : List X). Member e l) (sym (a .2)) (insert-holds (λ e. rank (key e)) x (λ y. y) e (take used xs) h)
+      subst (λ (l : List X). Member e l) (sym (a .listed)) (insert-holds (λ e. rank (key e)) x (λ y. y) e (take used xs) h)

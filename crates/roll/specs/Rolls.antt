@@ -39,15 +39,18 @@ insert rank x (y ∷ ys) = cond (ltb (rank x) (rank y)) (x ∷ (y ∷ ys)) (y �
 abbrev pub InOrder : {X K : Type 0} → (X → K) → (K → ℕ) → List X → Type 0
 InOrder key rank xs = Ascending (λ e. rank (key e)) xs
 
--- What adding an entry does to a slice whose first `used` entries are in use. Where the key is held,
--- or else no entry is left over, nothing changes; otherwise the entry stands in its place among those
--- in use, and the entries behind are kept.
+-- An entry is added to a slice whose first `used` entries are in use: its key was not held and an
+-- entry was left over; it stands in its place among those in use, and the spare ones behind are kept.
+pub record Joins {X K : Type 0} (key : X → K) (rank : K → ℕ) (entry : X) (used : ℕ) (before after : List X) : Type 0 where
+  pub fresh : Holds key (key entry) (take used before) → ⊥
+  pub room : used < length before
+  pub listed : take (used + 1) after ≡ insert (λ e. rank (key e)) entry (take used before)
+  pub spare : drop (used + 1) after ≡ drop (used + 1) before
+
+-- What adding does, by its answer: where the key is held, or else no entry is left over, nothing
+-- changes.
 abbrev pub Adds : {X K : Type 0} → (X → K) → (K → ℕ) → X → ℕ → List X → List X → Added → Type 0
-Adds key rank entry used before after added.Added =
-    (Holds key (key entry) (take used before) → ⊥)
-    × (used < length before)
-    × (take (used + 1) after ≡ insert (λ e. rank (key e)) entry (take used before))
-    × (drop (used + 1) after ≡ drop (used + 1) before)
+Adds key rank entry used before after added.Added = Joins key rank entry used before after
 Adds key rank entry used before after added.Held =
     Holds key (key entry) (take used before) × (after ≡ before)
 Adds key rank entry used before after added.Full =

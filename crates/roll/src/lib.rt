@@ -1,6 +1,6 @@
 // Rolls: one ordered list for every kind of entry that has a key.
 pub mod added;
-pub mod insertion;
+mod insertion;
 pub mod key;
 pub mod roll;
 pub mod search;

@@ -69,8 +69,8 @@ where
     pub fn add(&mut self, entry: T) -> Added
         ensures adds { λ r. ⌜ Adds (T·Keyed .key) (Key·Ranked .rank) entry (now (self .entry) .used) (slots (now (self .entry))) (slots (now (self .exit))) r ⌝ }
         ensures counted { λ r. ⌜ now (self .exit) .used ≡ usedAfter (now (self .entry) .used) r ⌝ }
-        ensures ordered { λ r. ⌜ (InOrder (T·Keyed .key) (Key·Ranked .rank) (inUse (now (self .entry))) → InOrder (T·Keyed .key) (Key·Ranked .rank) (inUse (now (self .exit)))) ⌝ }
-        ensures kept { λ r. ⌜ ((e : T) → Member e (inUse (now (self .entry))) → Member e (inUse (now (self .exit)))) ⌝ }
+        ensures ordered { λ _. ⌜ (InOrder (T·Keyed .key) (Key·Ranked .rank) (inUse (now (self .entry))) → InOrder (T·Keyed .key) (Key·Ranked .rank) (inUse (now (self .exit)))) ⌝ }
+        ensures kept { λ _. ⌜ ((e : T) → Member e (inUse (now (self .entry))) → Member e (inUse (now (self .exit)))) ⌝ }
         ensures lent { λ _. ⌜ name (now (self .exit) .entries) ≡ name (now (self .entry) .entries) ⌝ }
     {
         let Roll { entries, used } = self;
