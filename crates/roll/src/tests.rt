@@ -3,6 +3,7 @@ use crate::added::Added;
 use crate::added::AddedDebug;
 use crate::added::AddedPartialEq;
 use crate::key::Keyed;
+use crate::key::Ranked;
 use crate::key::U16Keyed;
 use crate::key::U16Ranked;
 use crate::roll::Roll;
@@ -51,7 +52,10 @@ impl Keyed for Tagged as TaggedKeyed {
     }
 }
 
-fn adds(roll: &mut Roll<u16>, entry: u16, wanted: Added) -> Result<(), Fail> {
+fn adds<T: Keyed + Copy>(roll: &mut Roll<T>, entry: T, wanted: Added) -> Result<(), Fail>
+where
+    T::Key: Ranked,
+{
     check_eq(roll.add(entry), wanted)
 }
 
@@ -112,16 +116,20 @@ fn noted(place: u16, answer: bool) -> Note {
     Note { place, answer }
 }
 
+fn answers(notes: &[Note], wanted: [bool; 2]) -> Result<(), Fail> {
+    match notes {
+        [first, second] => check(first.answer == wanted[0] && second.answer == wanted[1]),
+        _ => Err(Fail::new("two entries are in use")),
+    }
+}
+
 #[test]
 fn records() -> Result<(), Fail> {
     let mut slots = [noted(0, false); 2];
     let mut roll = Roll::over(&mut slots);
-    check_eq(roll.add(noted(9, true)), Added::Added)?;
-    check_eq(roll.add(noted(3, false)), Added::Added)?;
-    let [first, second] = roll.in_use() else {
-        return Err(Fail::new("two entries are in use"));
-    };
-    check(!first.answer && second.answer)
+    adds(&mut roll, noted(9, true), Added::Added)?;
+    adds(&mut roll, noted(3, false), Added::Added)?;
+    answers(roll.in_use(), [false, true])
 }
 
 #[test]
@@ -130,9 +138,14 @@ fn every_entry_in_use() -> Result<(), Fail> {
     check_eq(count_key(&[5u16, 2, 5], &5), 2)
 }
 
+fn has_tag(tags: &[Tagged], tag: &[u8; 8], wanted: usize) -> Result<(), Fail> {
+    check(holds_key(tags, tag) == (wanted > 0))?;
+    check_eq(count_key(tags, tag), wanted)
+}
+
 #[test]
 fn keys_without_an_order() -> Result<(), Fail> {
-    let tagged = [Tagged { tag: *b"position" }, Tagged { tag: *b"question" }];
-    check(holds_key(&tagged, b"question"))?;
-    check_eq(count_key(&tagged, b"resource"), 0)
+    let tags = [Tagged { tag: [2; 8] }, Tagged { tag: [1; 8] }];
+    has_tag(&tags, &[1; 8], 1)?;
+    has_tag(&tags, &[3; 8], 0)
 }

@@ -1,4 +1,3 @@
-use mathlib.Core.Path.{refl}
 use borrow.Author.Needs.{needs}
 use Rattle.roll.proofs.Rolls.{added-in-order, added-kept}
 use Rattle.roll.proofs.roll.Roll.add.Needs as need
@@ -6,7 +5,7 @@ use Rattle.roll.proofs.roll.Roll.add.Needs as need
 pub returns-in-Added : need.returns-in-Added
 returns-in-Added g c =
     record {
-      adds = c .insert-answer .ensures .adds;
+      adds = search needs;
       counted = search needs;
       ordered =
           added-in-order (g .T·Keyed .key) (g .Key·Ranked .rank) (c .args .entry) (c .args .self .now .used)
