@@ -9,7 +9,7 @@ ghost use Rattle.domain.specs.Refusals.{firstOf};
 ghost use Rattle.domain.specs.Requests.{openTests, bindTests, joinTests, forgetTests, Gives};
 ghost use Rattle.domain.specs.Tables.{holdsBit, toldWith};
 ghost use Rattle.std.specs.Orderings.{Decides};
-ghost use Rattle.std.specs.declared.result.Result.the-variants.{Ok, Err};
+ghost use Rattle.std.specs.declared.result.Result.the-variants.{Err};
 ghost use lib.ListN.{length};
 ghost use mathlib.Core.List.{_++_};
 ghost use mathlib.Core.Path.{_≡_};
