@@ -8,17 +8,10 @@ use Rattle.domain.specs.Coverage.{Listed, here, there, Core, Alike}
 use Rattle.domain.specs.Told.{Told, Group}
 use Rattle.domain.specs.Coverage.{CoreList}
 use Rattle.domain.specs.Lists.{Above, none, next, Ascending}
-use Rattle.coverage.proofs.CoreLeast.{core-kept}
-use Rattle.coverage.proofs.CoreLeast as least
+use Rattle.coverage.proofs.ExistsFit.{above-listed}
 
 nothing-listed : {g : ℕ} → Listed g [] → ⊥
 nothing-listed l = elim l [ ]
-
--- an entry of an ascending list is above what the list is above
-pub above-listed : {last g : ℕ} {gs : List ℕ} → Above last gs → Listed g gs → last < g
-above-listed none l = absurd (nothing-listed l)
-above-listed (next h a) here = h
-above-listed {last} {g} (next {g = k} h a) (there l) = let i : k < g = above-listed a l in omega arith
 
 listed-head : {g h : ℕ} {gs : List ℕ} → Listed g (h ∷ gs) → (g ≡ h) ⊎ Listed g gs
 listed-head here = inl refl

@@ -2,27 +2,23 @@
 use mathlib.Core.Path.{_≡_, refl, sym, ap, subst, _∙_}
 use mathlib.Core.Bool.{Bool, true, false, not, _&&_, _||_}
 use mathlib.Core.List.{List, [], _∷_}
-use mathlib.Core.Logic.{_⊎_, inl, inr}
 use Prim.Native.Nat.{ℕ, _-_, _^_, _≤_, _<_}
 use native.Mathlib.Omega.{arith}
-use borrow.Author.Tests.{ltb-true, leb-false, eqb-true}
-use lib.Bits.{bitAnd, bitOr}
+use borrow.Author.Tests.{leb-false}
 use lib.Dec.{eqb, ltb, leb}
 use Rattle.std.specs.declared.option.Option.{Option}
 use Rattle.std.specs.declared.option.Option.the-variants.{Some, None}
-use Rattle.coverage.proofs.Kept.{new-lawful, bind-lawful, join-lawful, forget-lawful}
-use Rattle.coverage.specs.Rules.{LawfulJoin}
-use Rattle.domain.proofs.Bits.{and-within, in-either, none-in, in-left, in-right, in-lacking, in-all}
+use Rattle.coverage.proofs.Kept.{new-lawful, bind-lawful}
+use Rattle.domain.proofs.Forgetting.{forget-lawful}
+use Rattle.domain.proofs.Joining.{join-lawful, join-allowed}
 use Rattle.domain.specs.Binding.{Bound}
-use Rattle.domain.specs.Coverage.{Listed, here, there}
 use Rattle.domain.specs.Forgetting.{Forgotten}
 use Rattle.domain.specs.Joining.{Joined}
-use Rattle.domain.specs.Masks.{In}
 use Rattle.domain.specs.Refusals.{firstOf, pick}
-use Rattle.domain.specs.Requests.{ascend, heldBy, illMarks, reaches, contained, without, joinTests, forgetTests}
+use Rattle.domain.specs.Requests.{reaches, joinTests, forgetTests}
 use Rattle.domain.specs.Told.{Told, Lawful}
 use Rattle.domain.specs.declared.refusal.Refusal.{Refusal}
-use Rattle.domain.specs.declared.refusal.Refusal.the-variants.{Order, Position, Groups, Marks, Room}
+use Rattle.domain.specs.declared.refusal.Refusal.the-variants.{Order, Position, Room}
 use Rattle.keeper.specs.Calls.{joinRefusal, forgetRefusal}
 use Rattle.agreement.specs.Reckoning as reckoning
 use Rattle.agreement.specs.Reckoning.{Makes, refused, exceeds, makes, Reckons, ReckonsAll, Reckoned}
@@ -33,75 +29,8 @@ pub pick-none : (b : Bool) (e : Refusal) (o : Option Refusal) → pick b e o ≡
 pick-none true e o h = absurd (let z : _≡_ {A = ℕ} 0 1 = cc in omega arith)
 pick-none false e o h = (refl, h)
 
-both : (a b : Bool) → a && b ≡ true → (a ≡ true) × (b ≡ true)
-both true b h = (refl, h)
-both false b h = absurd (let z : _≡_ {A = ℕ} 0 1 = cc in omega arith)
-
-neither : (a b : Bool) → a || b ≡ false → (a ≡ false) × (b ≡ false)
-neither true b h = absurd (let z : _≡_ {A = ℕ} 0 1 = cc in omega arith)
-neither false b h = (refl, h)
-
-not-is : (b : Bool) → not b ≡ false → b ≡ true
-not-is true h = refl
-not-is false h = absurd (let z : _≡_ {A = ℕ} 0 1 = cc in omega arith)
-
-is-not : (b : Bool) → not b ≡ true → b ≡ false
-is-not false h = refl
-is-not true h = absurd (let z : _≡_ {A = ℕ} 0 1 = cc in omega arith)
-
-pub reaches-not : (n m : ℕ) → reaches n m ≡ false → m < 2 ^ n
+reaches-not : (n m : ℕ) → reaches n m ≡ false → m < 2 ^ n
 reaches-not n m h = leb-false (2 ^ n) m h
-
-pub ascend-range : (n last : ℕ) (hs : List ℕ) → ascend n last hs ≡ true → (g : ℕ) → Listed g hs → (last < g) × (g < 2 ^ n)
-ascend-range n last [] h g l = elim l [ ]
-ascend-range n last (k ∷ hs) h g here =
-    let a = both (ltb last k) (not (reaches n k) && ascend n k hs) h in
-    let b = both (not (reaches n k)) (ascend n k hs) (a .1) in
-    (ltb-true last k (a .0), reaches-not n k (is-not (reaches n k) (b .0)))
-ascend-range n last (k ∷ hs) h g (there l) =
-    let a = both (ltb last k) (not (reaches n k) && ascend n k hs) h in
-    let b = both (not (reaches n k)) (ascend n k hs) (a .1) in
-    let rest = ascend-range n k hs (b .1) g l in
-    let low : last < k = ltb-true last k (a .0) in
-    let high : k < g = rest .0 in
-    (omega arith, rest .1)
-
--- a position that some group of the list holds, and none other, is one of heldBy
-pub held-listed : (hs : List ℕ) (p : ℕ) → In p (heldBy hs) → (g : ℕ) × Listed g hs × In p g
-held-listed [] p i = absurd (none-in i)
-held-listed (h ∷ hs) p i = go (in-either h (heldBy hs) i) (held-listed hs p)
-  where
-    go : In p h ⊎ In p (heldBy hs) → (In p (heldBy hs) → (g : ℕ) × Listed g hs × In p g) → (g : ℕ) × Listed g (h ∷ hs) × In p g
-    go (inl i) rest = (h, here, i)
-    go (inr i) rest = let r = rest i in (r .0, there (r .1), r .2)
-
-pub listed-held : {g p : ℕ} (hs : List ℕ) → Listed g hs → In p g → In p (heldBy hs)
-listed-held [] l i = elim l [ ]
-listed-held (h ∷ hs) here i = in-left (heldBy hs) i
-listed-held (h ∷ hs) (there l) i = in-right h (listed-held hs l i)
-
-within-contained : (a b : ℕ) → contained a b ≡ true → (p : ℕ) → In p a → In p b
-within-contained a b h p i = and-within a b (eqb-true (bitAnd a b) a h) .each p i
-
--- what the tests of a join let through is a description of its own
-pub lawful-join : (n f l : ℕ) (hs : List ℕ) (scratch : ℕ) → firstOf (joinTests n f l hs scratch) ≡ None → LawfulJoin n f l hs
-lawful-join n f l hs scratch h =
-    let a = pick-none (not (ascend n 0 hs)) Groups (pick (illMarks n f l hs) Marks (pick (ltb scratch 512) Room None)) h in
-    let b = pick-none (illMarks n f l hs) Marks (pick (ltb scratch 512) Room None) (a .1) in
-    let up : ascend n 0 hs ≡ true = not-is (ascend n 0 hs) (a .0) in
-    let m = neither (reaches n f || reaches n l) (not (contained f l && (contained (without (2 ^ n - 1) (heldBy hs)) l && contained f (heldBy hs)))) (b .0) in
-    let r = neither (reaches n f) (reaches n l) (m .0) in
-    let c = both (contained f l) (contained (without (2 ^ n - 1) (heldBy hs)) l && contained f (heldBy hs)) (not-is (contained f l && (contained (without (2 ^ n - 1) (heldBy hs)) l && contained f (heldBy hs))) (m .1)) in
-    let e = both (contained (without (2 ^ n - 1) (heldBy hs)) l) (contained f (heldBy hs)) (c .1) in
-    record {
-      in-range = ascend-range n 0 hs up;
-      linear-in-range = reaches-not n l (r .1);
-      free-is-linear = within-contained f l (c .0);
-      ground-is-linear = λ p i none. within-contained (without (2 ^ n - 1) (heldBy hs)) l (e .0) p
-          (in-lacking (in-all p n i) (λ k. let w = held-listed hs p k in none (w .0) (w .1) (w .2)));
-      free-is-not-ground = λ p i none.
-          let w = held-listed hs p (within-contained f (heldBy hs) (e .1) p i) in none (w .0) (w .1) (w .2);
-    }
 
 -- what is reckoned of one call keeps the rules
 makes-lawful : (capacity : ℕ) (o : Option Refusal) (Rule : Told → Type 0) (d e : Told) → Lawful d
@@ -115,7 +44,7 @@ moved p h = subst (λ (x : Told). Lawful x) (sym p) h
 
 pub join-kept : {d e : Told} (f l : ℕ) (hs : List ℕ) (s : ℕ) → Lawful d → joinRefusal d f l hs s ≡ None → Joined d f l hs e → Lawful e
 join-kept {d} f l hs s law q r =
-    join-lawful law (lawful-join (d .n) f l hs s (pick-none (not (not (eqb (d .n) 0))) Order (firstOf (joinTests (d .n) f l hs s)) q .1)) r
+    join-lawful law (join-allowed (d .n) f l hs s (sym (pick-none (not (not (eqb (d .n) 0))) Order (firstOf (joinTests (d .n) f l hs s)) q .1)) .0) r
 
 pub forget-kept : {d e : Told} (m s : ℕ) → Lawful d → forgetRefusal d m s ≡ None → Forgotten d m e → Lawful e
 forget-kept {d} m s law q r =

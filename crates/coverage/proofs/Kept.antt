@@ -16,7 +16,6 @@ use Rattle.domain.specs.declared.case.Case.{Case}
 use Rattle.domain.specs.declared.term.Term.{Term}
 use Rattle.coverage.specs.BindLaws.{Linked, before, across, back, by-x, by-t, BindCovers, untouched, met}
 use Rattle.coverage.specs.Windows.{minus}
-use Rattle.coverage.specs.Rules.{LawfulJoin}
 use Rattle.domain.proofs.Bits.{in-below, in-single, in-pos, below-lt, in-lacking, within-left, within-right}
 use Rattle.coverage.proofs.Decided.{dec-in, dec-meets}
 use Rattle.coverage.proofs.Cover.{covers-own}
@@ -162,77 +161,3 @@ module _ {d e : Told} {x : ℕ} {t : Term} (l : Lawful d) (b : Bound d x t e) wh
             let s = b .free-only p i in
             free-held l (s .was) (λ h. still-held s h (λ k. g .none (k .group) (k .told) (k .holds)));
       }
-
--- ---- join
-
-pub join-lawful : {d e : Told} {free linear : ℕ} {hs : List ℕ} → Lawful d → LawfulJoin (d .n) free linear hs → Joined d free linear hs e → Lawful e
-join-lawful {d} {e} {free} {linear} {hs} l k j =
-    record {
-      some-positions = rw (j .positions) (l .some-positions);
-      few-positions = rw (j .positions) (l .few-positions);
-      in-range =
-          λ g t.
-          rw (j .positions) (elim (j .groups-only g t) [ inl h ↦ l .in-range g h | inr h ↦ k .in-range g h ]);
-      linear-in-range = rw (j .positions) (below-lt (e .linear) (d .n) (λ p i. linear-lt l (j .linear-only p i .0)));
-      free-is-linear =
-          λ p i.
-          let h = j .free-only p i in
-          j .linear-common p (l .free-is-linear p (h .0)) (k .free-is-linear p (h .1));
-      ground-is-linear =
-          λ p g.
-          j .linear-common p (l .ground-is-linear p (was g))
-          (k .ground-is-linear p (rw (j .positions) at (g .position)) (λ h m. g .none h (j .groups-made h (inr m))));
-      free-is-not-ground = λ p i g. l .free-is-not-ground p (j .free-only p i .0) (was g);
-    }
-  where
-    was : {p : ℕ} → Ground e p → Ground d p
-    was g =
-        record {
-          position = rw (j .positions) at (g .position);
-          none = λ h t. g .none h (j .groups-made h (inl t));
-        }
-
--- ---- forget
-
-pub forget-lawful : {d e : Told} {m : ℕ} → Lawful d → m < 2 ^ d .n → Forgotten d m e → Lawful e
-forget-lawful {d} {e} {m} l small f =
-    record {
-      some-positions = rw (f .positions) (l .some-positions);
-      few-positions = rw (f .positions) (l .few-positions);
-      in-range = λ g t. rw (f .positions) (elim (f .groups-only g t) [ inl s ↦ left-range g s | inr r ↦ new-range g r ]);
-      linear-in-range =
-          rw (f .positions)
-          (below-lt (e .linear) (d .n)
-          (λ p i. elim (f .linear-only p i) [ inl h ↦ linear-lt l h | inr h ↦ in-below (d .n) h small ]));
-      free-is-linear =
-          λ p i.
-          f .linear-made p (elim (f .free-only p i) [ inl h ↦ inl (l .free-is-linear p h) | inr h ↦ inr h ]);
-      ground-is-linear = λ p g. f .linear-made p (inl (l .ground-is-linear p (was g)));
-      free-is-not-ground =
-          λ p i g.
-          elim (f .free-only p i)
-          [ inl h ↦ l .free-is-not-ground p h (was g) | inr h ↦ not-forgotten g h ];
-    }
-  where
-    left-range : (g : ℕ) → Stripped d m g → (0 < g) × (g < 2 ^ d .n)
-    left-range g s =
-        (s .not-empty, below-lt g (d .n) (λ p i. in-below (d .n) (s .only p i .0) (l .in-range (s .group) (s .told) .1)))
-
-    new-range : (g : ℕ) → Renewed m g → (0 < g) × (g < 2 ^ d .n)
-    new-range g r =
-        (rw (r .only) (pow-pos (r .place)), rw (r .only) (pow-lt (in-below (d .n) (r .forgotten) small)))
-
-    not-forgotten : {p : ℕ} → Ground e p → In p m → ⊥
-    not-forgotten {p} g i = g .none (2 ^ p) (f .groups-made (2 ^ p) (inr (renewed i))) (in-single p)
-
-    was : {p : ℕ} → Ground e p → Ground d p
-    was {p} g =
-        record {
-          position = rw (f .positions) at (g .position);
-          none =
-              λ h t i.
-              elim (dec-in p m) [
-                | yes y ↦ not-forgotten g y
-                | no n ↦ g .none (minus h m) (f .groups-made (minus h m) (inl (stripped t i n))) (in-lacking i n)
-              ];
-        }

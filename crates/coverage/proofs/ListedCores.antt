@@ -1,14 +1,13 @@
 -- Writing the core groups into a list, in ascending order.
 use mathlib.Core.Path.{_≡_, refl, sym, ap, subst, _∙_}
 use mathlib.Core.Logic.{_⊎_, inl, inr}
-use mathlib.Core.List.{List, [], _∷_, _++_, append-assoc}
-use Prim.Native.Nat.{ℕ, suc, _+_, _≤_, _<_}
+use mathlib.Core.List.{List, [], _∷_, _++_}
+use Prim.Native.Nat.{ℕ, _+_, _≤_, _<_}
 use native.Mathlib.Decide.{ℕ-discrete}
-use native.Mathlib.Numerals.{add-one}
 use native.Mathlib.Omega.{arith}
 use lib.ListN.{length, drop, set, length-append}
-use lib.Seq.{drop-cons, set-at}
 use Rattle.domain.specs.Coverage.{Core, CoreFits, CoreList, Listed, here, there}
+use Rattle.domain.proofs.Written.{written-more}
 use Rattle.domain.specs.Lists.{Above, none, next}
 use Rattle.coverage.proofs.Counting.{once-le, empty-listed}
 use Rattle.coverage.proofs.ExistsFit.{above-distinct}
@@ -22,14 +21,6 @@ use Rattle.std.specs.declared.result.Result.the-variants.{Ok}
 use Rattle.domain.specs.Refusals.{firstOf, pick}
 use Rattle.domain.specs.Requests.{Gives, openTests}
 use Rattle.domain.specs.declared.refusal.Refusal.the-variants.{Count}
-
--- one entry more behind those written so far
-pub written-more : {A : Type 0} (written list : List A) (k : ℕ) (m : A) → length written ≡ k → k < length list
-  → set (written ++ drop k list) k m ≡ (written ++ m ∷ []) ++ drop (k + 1) list
-written-more written list k m e h =
-    rw (drop-cons list k m h)
-      (set-at written _ (drop (suc k) list) m k e
-      ∙ sym (append-assoc written (m ∷ []) (drop (k + 1) list) ∙ ap (λ (n : ℕ). written ++ m ∷ drop n list) (add-one k)))
 
 listed-front : {g : ℕ} {gs : List ℕ} (h : ℕ) → Listed g gs → Listed g (gs ++ h ∷ [])
 listed-front h here = here
@@ -66,7 +57,7 @@ list-start {G} start no-zero =
       above = none;
       only = λ h l. empty-listed l;
       all = λ h c b. let z : h ≡ 0 = omega arith in absurd (no-zero (subst (Core G) z c));
-      at-start = refl
+      at-start = refl;
     }
 
 pub list-skip : {G : ℕ → Type 0} {start list : List ℕ} {g used : ℕ} → (Core G g → ⊥) → ListedTo G start g used list → ListedTo G start (g + 1) used list
@@ -77,27 +68,27 @@ list-skip {G} {start} {list} {g} not-core w =
       above = w .above;
       only = λ h l. let o = w .only h l in (o .0, omega (arith, o .1));
       all = λ h c b. elim (ℕ-discrete h g) [ yes e ↦ absurd (not-core (subst (Core G) e c)) | no ne ↦ w .all h c (omega arith) ];
-      at-start = w .at-start
+      at-start = w .at-start;
     }
 
 pushed-core : {G : ℕ → Type 0} {start list : List ℕ} {g used : ℕ} → Core G g → (w : ListedTo G start g used list)
-  → (h : ℕ) → Listed h (w .groups ++ g ∷ []) → Core G h × (h < g + 1)
+    → (h : ℕ) → Listed h (w .groups ++ g ∷ []) → Core G h × (h < g + 1)
 pushed-core {G} {g = g} c w h l =
     elim (listed-push (w .groups) l) [
-      inl m ↦ (let o = w .only h m in (o .0, omega (arith, o .1)))
-    | inr e ↦ (subst (Core G) (sym e) c, omega arith)
+      | inl m ↦ (let o = w .only h m in (o .0, omega (arith, o .1)))
+      | inr e ↦ (subst (Core G) (sym e) c, omega arith)
     ]
 
 -- there is room for one more
 pub list-room : {G : ℕ → Type 0} {start list : List ℕ} {g used k : ℕ} → 0 < g → Core G g → ListedTo G start g used list → CoreFits G k → used < k
 list-room {G} {g = g} {used = used} pos c w fits =
     let long : length (w .groups ++ g ∷ []) ≤ length (fits .groups) =
-      once-le (above-distinct (above-push (w .above) pos (λ h l. w .only h l .1))) (fits .groups) (λ h l. fits .holds h (pushed-core c w h l .0)) in
+    once-le (above-distinct (above-push (w .above) pos (λ h l. w .only h l .1))) (fits .groups) (λ h l. fits .holds h (pushed-core c w h l .0)) in
     let count : length (w .groups ++ g ∷ []) ≡ length (w .groups) + 1 = length-append (w .groups) (g ∷ []) in
     omega (arith, long, count, w .counted, fits .short)
 
 pub list-one : {G : ℕ → Type 0} {start list : List ℕ} {g used : ℕ} → 0 < g → used < length start → Core G g → ListedTo G start g used list
-  → ListedTo G start (g + 1) (used + 1) (set list used g)
+    → ListedTo G start (g + 1) (used + 1) (set list used g)
 list-one {G} {start} {list} {g} {used} pos room c w =
     record {
       groups = w .groups ++ g ∷ [];
@@ -105,11 +96,11 @@ list-one {G} {start} {list} {g} {used} pos room c w =
       above = above-push (w .above) pos (λ h l. w .only h l .1);
       only = pushed-core c w;
       all = λ h k b.
-        elim (ℕ-discrete h g) [
-          yes e ↦ subst (λ (x : ℕ). Listed x (w .groups ++ g ∷ [])) (sym e) (listed-last (w .groups))
-        | no ne ↦ listed-front g (w .all h k (omega arith))
-        ];
-      at-start = ap (λ (l : List ℕ). set l used g) (w .at-start) ∙ written-more (w .groups) start used g (w .counted) room
+          elim (ℕ-discrete h g) [
+            | yes e ↦ subst (λ (x : ℕ). Listed x (w .groups ++ g ∷ [])) (sym e) (listed-last (w .groups))
+            | no ne ↦ listed-front g (w .all h k (omega arith))
+          ];
+      at-start = ap (λ (l : List ℕ). set l used g) (w .at-start) ∙ written-more (w .groups) start used g (w .counted) room;
     }
 
 pub list-end : {G : ℕ → Type 0} {start list : List ℕ} {g used : ℕ} → ((h : ℕ) → Core G h → h < g) → ListedTo G start g used list → FillsCore G start list used
@@ -118,22 +109,22 @@ list-end below w =
       groups = w .groups;
       core = record { only = λ h l. w .only h l .0; all = λ h c. w .all h c (below h c); ascending = w .above };
       counted = sym (w .counted);
-      at-start = w .at-start
+      at-start = w .at-start;
     }
 
 -- a set with the same groups is filled in alike
 pub fills-as : {G H : ℕ → Type 0} {list list′ : List ℕ} {k : ℕ} → ((h : ℕ) → G h → H h) → ((h : ℕ) → H h → G h)
-  → FillsCore G list list′ k → FillsCore H list list′ k
+    → FillsCore G list list′ k → FillsCore H list list′ k
 fills-as to from w =
     record {
       groups = w .groups;
       core = record {
         only = λ g l. core-as to from (w .core .only g l);
         all = λ g c. w .core .all g (core-as from to c);
-        ascending = w .core .ascending
+        ascending = w .core .ascending;
       };
       counted = w .counted;
-      at-start = w .at-start
+      at-start = w .at-start;
     }
 
 -- the number of positions is not refused where a count is given

@@ -1,22 +1,12 @@
 -- Every step keeps the rules of a description.
 use mathlib.Core.List.{List}
 use Prim.Native.Nat.{ℕ, _<_, _^_}
-use Rattle.domain.specs.Masks.{In}
 use Rattle.domain.specs.Told.{Told, Lawful}
 use Rattle.domain.specs.Opening.{New}
 use Rattle.domain.specs.Binding.{Bound}
-use Rattle.domain.specs.Joining.{Joined}
+use Rattle.domain.specs.Joining.{Joined, LawfulJoin}
 use Rattle.domain.specs.Forgetting.{Forgotten}
-use Rattle.domain.specs.Coverage.{Listed}
 use Rattle.domain.specs.declared.term.Term.{Term}
-
--- what is given to a join is itself a description of n positions: its marks keep the three rules with its groups
-pub record LawfulJoin (n free linear : ℕ) (hs : List ℕ) : Type 0 where
-  pub in-range : (g : ℕ) → Listed g hs → (0 < g) × (g < 2 ^ n)
-  pub linear-in-range : linear < 2 ^ n
-  pub free-is-linear : (p : ℕ) → In p free → In p linear
-  pub ground-is-linear : (p : ℕ) → p < n → ((g : ℕ) → Listed g hs → In p g → ⊥) → In p linear
-  pub free-is-not-ground : (p : ℕ) → In p free → ((g : ℕ) → Listed g hs → In p g → ⊥) → ⊥
 
 abbrev pub NewIsLawful : Type 0
 NewIsLawful = (n : ℕ) (e : Told) → 0 < n → n < 13 → New n e → Lawful e

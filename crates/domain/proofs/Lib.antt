@@ -17,3 +17,4 @@ pub mod Loading
 pub mod Refusing
 pub mod Joining
 pub mod Forgetting
+pub mod Written

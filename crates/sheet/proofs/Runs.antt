@@ -5,14 +5,13 @@ use mathlib.Core.Bool.{Bool, true, false, cond}
 use mathlib.Core.List.{List, [], _∷_, _++_, append-assoc, append-nil}
 use Prim.Native.Nat.{ℕ, zero, suc, _+_, _-_, _≤_, _<_}
 use native.Mathlib.Nat.{sub-zero}
-use native.Mathlib.Numerals.{add-one}
 use native.Mathlib.Omega.{arith}
 use borrow.Author.Tests.{lt-ltb, le-ltb, ltb-true, ltb-false}
 use lib.Dec.{ltb}
 use lib.ListN.{length, drop, set, length-append}
-use lib.Seq.{drop-cons, set-at}
 use Rattle.std.specs.declared.result.Result.{Result}
 use Rattle.std.specs.declared.result.Result.the-variants.{Ok, Err}
+use Rattle.domain.proofs.Written.{written-more}
 use Rattle.domain.specs.Told.{Told}
 use Rattle.keeper.specs.declared.fault.KeeperFault.{KeeperFault}
 use Rattle.sheet.specs.Faults.{faultAt}
@@ -71,14 +70,6 @@ module _ (capacity scratch : ℕ) (sheet : List ℕ) (before : Told) (marks₀ :
   unfolding scriptFrom
   script-end turns room at state h = rw (le-ltb at (length sheet) h)
 
-  -- the mark that a turn writes stands behind those written before
-  mark-more : (written : List StepMark) (k : ℕ) (m : StepMark) → length written ≡ k → k < length marks₀
-      → set (written ++ drop k marks₀) k m ≡ (written ++ m ∷ []) ++ drop (k + 1) marks₀
-  mark-more written k m e h =
-      rw (drop-cons marks₀ k m h)
-      (set-at written _ (drop (suc k) marks₀) m k e
-      ∙ sym (append-assoc written (m ∷ []) (drop (k + 1) marks₀) ∙ ap (λ (n : ℕ). written ++ m ∷ drop n marks₀) (add-one k)))
-
   -- a turn that goes on
   module _ (c : Cursor) (d e : Told) (marks marks′ : List StepMark) (long : length marks ≡ length marks₀)
       (here : c .at < length sheet) where
@@ -95,7 +86,7 @@ module _ (capacity scratch : ℕ) (sheet : List ℕ) (before : Told) (marks₀ :
           within = within;
           written = w .written ++ m ∷ [];
           count = length-append (w .written) (m ∷ []) ∙ ap (λ (k : ℕ). k + 1) (w .count);
-          marked = ap (λ (l : List StepMark). set l (c .step) m) (w .marked) ∙ mark-more (w .written) (c .step) m (w .count) room;
+          marked = ap (λ (l : List StepMark). set l (c .step) m) (w .marked) ∙ written-more (w .written) marks₀ (c .step) m (w .count) room;
           onward = λ ms r z p.
               subst (λ (l : List StepMark). Plays capacity scratch (scriptOf sheet (length marks₀)) 0 before l r z)
               (sym (append-assoc (w .written) (m ∷ []) ms))

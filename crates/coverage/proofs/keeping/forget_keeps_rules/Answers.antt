@@ -1,4 +1,4 @@
-use Rattle.coverage.proofs.Kept.{forget-lawful}
+use Rattle.domain.proofs.Forgetting.{forget-lawful}
 use Rattle.coverage.proofs.keeping.forget_keeps_rules.Needs as need
 
 pub returns : need.returns

@@ -1,4 +1,4 @@
-use Rattle.coverage.proofs.Kept.{join-lawful}
+use Rattle.domain.proofs.Joining.{join-lawful}
 use Rattle.coverage.proofs.keeping.join_keeps_rules.Needs as need
 
 pub returns : need.returns

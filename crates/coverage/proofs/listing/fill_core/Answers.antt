@@ -10,9 +10,9 @@ use Rattle.coverage.proofs.listing.fill_core.Needs.{then-is-core, else-is-core
 
 pub loop-g-holds : need.loop-g-holds
 loop-g-holds c = (
-    omega arith,
-    list-start (c .args .list .now) (λ k. omega (arith, core-range (c .args .n) (c .args .table .now) 0 k .0)),
-  )
+  omega arith,
+  list-start (c .args .list .now) (λ k. omega (arith, core-range (c .args .n) (c .args .table .now) 0 k .0)),
+)
 
 pub index-list-used : need.index-list-used
 index-list-used c =
@@ -27,7 +27,7 @@ loop-g-again c =
       | then-is-core w ↦ (
         omega (arith, w .used-is, c .loop-g .inv .0),
         rw (w .used-is, w .list-is)
-          (list-one low (list-room low (c .is-core .ensures 0 0 .0 (w .if-is-core .taken)) (c .loop-g .inv .1) (c .pre .1))
+            (list-one low (list-room low (c .is-core .ensures 0 0 .0 (w .if-is-core .taken)) (c .loop-g .inv .1) (c .pre .1))
             (c .is-core .ensures 0 0 .0 (w .if-is-core .taken)) (c .loop-g .inv .1)),
       )
       | else-is-core w ↦ (
@@ -39,10 +39,10 @@ loop-g-again c =
 pub returns : need.returns
 returns c =
     list-end
-      (λ h k. omega (
-        arith,
-        core-range (c .args .n) (c .args .table .now) h k .1,
-        shifted-end (c .args .n) (let few = c .pre .0 in omega arith),
-        c .loop-g-test .left,
-      ))
-      (c .loop-g .inv .1)
+    (λ h k. omega (
+      arith,
+      core-range (c .args .n) (c .args .table .now) h k .1,
+      shifted-end (c .args .n) (let few = c .pre .0 in omega arith),
+      c .loop-g-test .left,
+    ))
+    (c .loop-g .inv .1)
