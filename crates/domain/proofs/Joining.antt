@@ -8,7 +8,6 @@ use native.Mathlib.Omega.{arith}
 use lib.Bits.{bitAnd}
 use lib.Dec.{ltb}
 use lib.ListN.{length}
-use lib.Pow.{pow-mono}
 use Rattle.std.specs.declared.option.Option.the-variants.{None}
 use Rattle.std.proofs.shelf.Tests.{lt-ltb, le-ltb, and-right, and-parts, or-parts, not-true, not-false, ltb-true, ltb-false, leb-false, eqb-true}
 use Rattle.domain.specs.Coverage.{Listed}
@@ -22,10 +21,7 @@ use Rattle.domain.specs.Told.{Told, Group, Ground, Lawful}
 use Rattle.domain.proofs.Bits.{and-within, in-first, in-second, in-both, in-either, none-in, in-lacking, in-all, in-below, below-lt}
 use Rattle.domain.proofs.Laws.{group-of, of-group}
 use Rattle.domain.proofs.Refusing.{passed}
-
--- a mask of so few positions has its bit in the table
-pub room-for : (n g k : ℕ) → n < 13 → g < 2 ^ n → 512 ≤ k → g / 8 < k
-room-for n g k few below room = let h : n ≤ 12 = omega arith in omega (arith, pow-mono h)
+use Rattle.domain.proofs.Tables.{room-for}
 
 -- the new table has the groups of the old one and those of the list
 pub joined-of :

@@ -3,13 +3,18 @@ use mathlib.Core.Path.{_≡_, refl, sym, _∙_, subst}
 use mathlib.Core.Logic.{_⊎_, inl, inr, _≢_}
 use mathlib.Core.Bool.{true}
 use mathlib.Core.List.{List, [], _∷_}
-use Prim.Native.Nat.{ℕ, zero, suc, _+_, _/_, _<_, _≤_}
+use Prim.Native.Nat.{ℕ, zero, suc, _+_, _/_, _^_, _<_, _≤_}
 use native.Mathlib.Omega.{arith}
 use lib.ListN.{length, getD}
 use Rattle.std.proofs.shelf.Tests.{cases-eq, cases-lt}
+use Rattle.std.specs.Orderings.{Decides}
 use Rattle.domain.specs.Coverage.{Listed}
 use Rattle.domain.specs.Coverage.Listed.{here, there}
-use Rattle.domain.specs.Tables.{holdsBit}
+use Rattle.domain.specs.Tables.{holdsBit, toldWith}
+use Rattle.domain.specs.Told.{Group}
+use Rattle.domain.specs.declared.marks.Marks.{Marks}
+use Rattle.domain.proofs.Laws.{group-of, of-group}
+use Rattle.domain.proofs.Tables.{room-for}
 
 -- the places of a list
 
@@ -64,3 +69,19 @@ pub loaded-put : (gs s t : List ℕ) (i : ℕ) → length gs ≤ i → Loaded gs
 loaded-put gs s t i all loaded g h l =
     let r = listed-at gs l in
     subst (λ k. holdsBit t k ≡ true) (r .2) (loaded .put (r .0) (omega (arith, r .1)) (rw (r .2) h))
+
+-- a table loaded with masks in range tells the groups of the list
+pub loaded-told :
+    (m : Marks) (t gs : List ℕ) → m .positions < 13 → 512 ≤ length t
+    → ((g : ℕ) → g / 8 < length t → Decides (holdsBit t g) (Listed g gs))
+    → ((g : ℕ) → Listed g gs → (0 < g) × (g < 2 ^ m .positions))
+    → (g : ℕ) → (Group (toldWith m t) g → Listed g gs) × (Listed g gs → Group (toldWith m t) g)
+loaded-told m t gs few room bits range g = (
+  λ k.
+      let r = of-group (m .positions) t (m .free) (m .linear) g k in
+      bits g (room-for (m .positions) g (length t) few (r .1) room) .0 (r .2),
+  λ l.
+      let r = range g l in
+      group-of (m .positions) t (m .free) (m .linear) g (r .0) (r .1)
+      (bits g (room-for (m .positions) g (length t) few (r .1) room) .1 l),
+)

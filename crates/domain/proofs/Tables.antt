@@ -6,7 +6,7 @@ use mathlib.Core.List.{List}
 use Prim.Native.Nat.{ℕ, _+_, _/_, _%_, _^_, _<_, _≤_}
 use native.Mathlib.Omega.{arith}
 use native.Mathlib.Nat.{div-eq-of-lt}
-use lib.Pow.{pow-pos}
+use lib.Pow.{pow-pos, pow-mono}
 use lib.Bits.{bitAnd, bitOr, bitXor, and-mask}
 use lib.Dec.{eqb}
 use lib.ListN.{length, getD, set}
@@ -116,6 +116,10 @@ written-up-more P old s t k on before here at others =
     go : (g : ℕ) → 0 < g → g < k + 1 → (g ≡ k) ⊎ (g ≡ k → ⊥) → Decides (holdsBit t g) (P g)
     go g some h (inl e) = rw e (decides-at (holdsBit t k) on at here)
     go g some h (inr ne) = decides-at (holdsBit t g) (holdsBit s g) (others g ne) (before .done g some (omega (arith, ne)))
+
+-- a mask of so few positions has its bit in the table
+pub room-for : (n g k : ℕ) → n < 13 → g < 2 ^ n → 512 ≤ k → g / 8 < k
+room-for n g k few below room = let h : n ≤ 12 = omega arith in omega (arith, pow-mono h)
 
 -- a mask whose bit two tables share is a group of the one where it is one of the other
 pub same-groups : (m : Marks) (s t : List ℕ) (g : ℕ) → holdsBit t g ≡ holdsBit s g → Group (toldWith m s) g → Group (toldWith m t) g
