@@ -80,6 +80,12 @@ fn a_step_out_of_turn(rt: LibcRuntime) -> Result<(), Fail> {
         b"\x01\x00\x01\x00\x02\x00\x00\x06\x00\x00",
         "0 open yes\n5 end yes\nrefused 4 at 9 step 2 runner\n",
     ).note("a byte after the end")?;
+    Ok(())
+}
+
+#[test]
+fn numbers_out_of_range(rt: LibcRuntime) -> Result<(), Fail> {
+    let heap = rt.alloc();
     // no positions
     prints(
         heap,
