@@ -1,6 +1,15 @@
 // Whole sheets, and what is printed of them.
 use console::run_sheet;
+use domain::refusal::Layer;
+use domain::refusal::LayerPartialEq;
+use domain::refusal::Refusal;
+use domain::refusal::RefusalPartialEq;
+use domain::term::Term;
+use keeper::fault::KeeperFault;
 use keeper::fault::KeeperFaultDebug;
+use keeper::keeper::Keeper;
+use sheet::mark::StepMark;
+use sheet::runner::run::run;
 use std::alloc::Global;
 use std::test::*;
 use table_keeper::TableKeeper;
@@ -186,4 +195,80 @@ fn worked_binds(rt: LibcRuntime) -> Result<(), Fail> {
         b"\x01\x00\x01\x00\x03\x06\x00\x02\x00\x00\x01\x00\x11\x00\x01\x11\x00\x02\x00\x02\x0c\x00\x13\x00\x00\x00\x01\x00\x11\x00\x00\x01\x00\x11\x00\x01\x02\x00\x05\x00\x6c\x02\x02\x00\x05\x00\x66\x00\x00\x00\x06\x00",
         "0 open yes\n5 bind yes\n15 bind yes\n36 ask no\n42 ask yes\n48 end yes\n",
     ).note("after 0 is bound to 1 the term f(0, 1) is not linear")
+}
+
+// A work list that is too short is refused by the one who needs it.
+#[test]
+fn short_work_lists() -> Result<(), Fail> {
+    let sheet = b"\x01\x00\x01\x00\x02\x00\x00\x06\x00";
+    let mut marks = [StepMark::blank(); 1];
+    let mut scratch = [0u8; 512];
+    let fault = match run(
+        &mut TableKeeper::new(),
+        sheet,
+        &mut marks,
+        &mut [],
+        &mut scratch,
+    ) {
+        Err(fault) => fault,
+        Ok(_) => return Err(Fail::new("there is room for one mark only")),
+    };
+    check(
+        fault.number() == 13
+            && fault.layer() == Layer::Runner
+            && fault.step == 1
+            && fault.place == 5,
+    )?;
+    let fault = match run(
+        &mut TableKeeper::new(),
+        sheet,
+        &mut marks,
+        &mut [],
+        &mut scratch[0..511],
+    ) {
+        Err(fault) => fault,
+        Ok(_) => return Err(Fail::new("scratch is one byte short")),
+    };
+    check(
+        fault.number() == 13
+            && fault.layer() == Layer::Keeper
+            && fault.step == 0
+            && fault.place == 0,
+    )
+}
+
+// The longest sheet is read, and one byte more is refused.
+#[test]
+fn long_sheets(rt: LibcRuntime) -> Result<(), Fail> {
+    let heap = rt.alloc();
+    let mut bytes = vec![in heap; 0u8; 65_535]?;
+    prints(heap, bytes.as_slice(), "refused 2 at 0 step 0 reader\n")?;
+    bytes.push(0)?;
+    prints(heap, bytes.as_slice(), "refused 3 at 0 step 0 reader\n")
+}
+
+// Arguments that no sheet can give a keeper.
+#[test]
+fn calls_that_are_refused() -> Result<(), Fail> {
+    let mut scratch = [0u8; 512];
+    let mut keeper = TableKeeper::new();
+    let term = Term {
+        bare: true,
+        held: 3,
+        repeated: 0,
+    };
+    check(is_refused(keeper.bind(0, term, &mut scratch), Refusal::Order))?;
+    keeper.open(2, &mut scratch)?;
+    check(is_refused(keeper.open(2, &mut scratch), Refusal::Order))?;
+    check(is_refused(keeper.bind(0, term, &mut scratch), Refusal::Marks))?;
+    check(is_refused(keeper.join(3, 3, &[2, 1], &mut scratch), Refusal::Groups))?;
+    check(is_refused(keeper.join(3, 1, &[1, 2], &mut scratch), Refusal::Marks))?;
+    check(is_refused(keeper.forget(4, &mut scratch), Refusal::Position))
+}
+
+fn is_refused(done: Result<(), KeeperFault>, refusal: Refusal) -> bool {
+    match done {
+        Ok(()) => false,
+        Err(fault) => fault.refusal == refusal,
+    }
 }
