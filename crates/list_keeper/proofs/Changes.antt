@@ -158,11 +158,11 @@ module _ (Rule : Told → Told → Type 0) (tests : ℕ → ℕ → Option Refus
       go (Ok u) s = (e, rule, s .0, tells-alike (s .1))
       go (Err f) s = (s .0, s .1, (e, rule, s .2))
 
-  pub rule-refused : (e : Refusal) (P : Marks → Type 0)
-      → Gives (pick (eqb (b .positions) 0 || ltb 12 (b .positions)) Count (tests (b .positions) (length loaded))) (Err e) P
+  pub rule-refused : (e : Refusal) (table : List ℕ)
+      → Gives (pick (eqb (b .positions) 0 || ltb 12 (b .positions)) Count (tests (b .positions) (length loaded))) (Err e) (λ x. Rule (toldWith b loaded) (toldWith x table))
       → (capacity : ℕ) (r : Result (Unit {0}) KeeperFault) → r ≡ Err (faultOf e)
       → Changes (pick (not (not (eqb (head .positions) 0))) Order (tests (head .positions) len)) capacity (Rule (toldBy head list)) Alike (toldBy head list) (toldBy head list) r
-  rule-refused e P h capacity r q =
-      let g : tests (head .positions) len ≡ Some e = sym given-tests ∙ refusal-given _ e P h in
+  rule-refused e table h capacity r q =
+      let g : tests (head .positions) len ≡ Some e = sym given-tests ∙ refusal-given _ e (λ x. Rule (toldWith b loaded) (toldWith x table)) h in
       subst (λ (x : Option Refusal). Changes x capacity (Rule (toldBy head list)) Alike (toldBy head list) (toldBy head list) r)
       (sym (opened-told (head .positions) (tests (head .positions) len) some ∙ g)) (q, refl)

@@ -6,7 +6,7 @@ use Prim.Native.Nat.{ℕ, _+_, _-_, _^_, _<_, _≤_}
 use native.Mathlib.Omega.{arith}
 use lib.Dec.{eqb, ltb}
 use lib.ListN.{length, getD, take, drop, length-append, length-drop}
-use lib.Seq.{take-at}
+use lib.Seq.{take-at, length-take-le}
 use Rattle.std.proofs.shelf.Tests.{ne-eqb, le-ltb, or-from}
 use Rattle.std.specs.declared.option.Option.{Option}
 use Rattle.std.specs.declared.option.Option.the-variants.{Some, None}
@@ -33,7 +33,7 @@ use Rattle.keeper.specs.Calls.{faultOf}
 use Rattle.keeper.specs.declared.fault.KeeperFault.{KeeperFault}
 use Rattle.list_keeper.proofs.Listing.{test-listed, listed-test, ascend-above, above-ascend}
 use Rattle.list_keeper.specs.Entries.{isListed}
-use Rattle.list_keeper.specs.Keeping.{Kept, TellsCore, Stores}
+use Rattle.list_keeper.specs.Keeping.{Kept, TellsCore, Stores, Shows, Laid}
 use Rattle.list_keeper.specs.Lawful.{OwnCore, Closed, Digit}
 use Rattle.list_keeper.specs.Tells.{toldBy}
 use Rattle.list_keeper.specs.declared.head.Head.{Head}
@@ -86,6 +86,20 @@ module _ (head : Head) (list : List ℕ) (kept : Kept head list) where
   pub own-range : (g : ℕ) → Group (toldBy head list) g → (0 < g) × (g < 2 ^ head .positions)
   own-range g t =
       ascend-range (head .positions) 0 (take (head .count) list) (kept .rising) g (test-listed (take (head .count) list) g (t .told))
+
+  -- so the list shows it
+  pub shows : 0 < head .positions → Shows (toldBy head list) list
+  shows some =
+      let long : length (take (head .count) list) ≡ head .count = length-take-le (head .count) list (kept .inside) in
+      record {
+        groups = take (head .count) list;
+        core = own-core;
+        front = ap (λ (n : ℕ). take n list) long;
+        zero = λ i h. kept .cleared some i (omega arith);
+      }
+
+  pub laid : (before : List ℕ) → (head .positions ≡ 0 → list ≡ before) → Laid head before list
+  laid before same = (same, shows)
 
 -- ---- a core that is stored
 

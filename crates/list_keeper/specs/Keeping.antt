@@ -1,15 +1,17 @@
 -- What the inner functions of a list keeper promise.
 use mathlib.Core.Path.{_≡_}
 use mathlib.Core.List.{List}
-use Prim.Native.Nat.{ℕ}
+use Prim.Native.Nat.{ℕ, _<_, _≤_}
+use lib.ListN.{length, getD, take}
 use Rattle.std.specs.declared.result.Result.{Result}
 use Rattle.std.specs.declared.result.Result.the-variants.{Ok, Err}
-use Rattle.domain.specs.Coverage.{Core, CoreFits}
+use Rattle.domain.specs.Coverage.{Core, CoreFits, CoreList}
 use Rattle.domain.specs.Told.{Told, Group}
 use Rattle.domain.specs.declared.refusal.Refusal.the-variants.{Capacity}
 use Rattle.keeper.specs.Calls.{faultOf}
 use Rattle.keeper.specs.declared.fault.KeeperFault.{KeeperFault}
 use Rattle.list_keeper.specs.Lawful.{Few, Inside, Rising, OwnCore, Cleared}
+use Rattle.list_keeper.specs.Tells.{toldBy}
 use Rattle.list_keeper.specs.declared.head.Head.{Head}
 
 -- the rules of the keeper hold of a head and a list
@@ -33,3 +35,14 @@ abbrev pub Stores : Told → ℕ → Told → Told → Result (Unit {0}) KeeperF
 Stores e capacity before after (Ok u) = CoreFits (Group e) capacity × TellsCore e after
 Stores e capacity before after (Err f) =
     (f ≡ faultOf Capacity) × (after ≡ before) × (CoreFits (Group e) capacity → ⊥)
+
+-- the core of d stands at the start of the list, and the entries behind it are 0
+pub record Shows (d : Told) (list : List ℕ) : Type 0 where
+  pub groups : List ℕ
+  pub core : CoreList (Group d) groups
+  pub front : take (length groups) list ≡ groups
+  pub zero : (i : ℕ) → length groups ≤ i → getD list i 0 ≡ 0
+
+-- while the keeper is not opened its list stays as it was; from then on it shows what is told
+abbrev pub Laid : Head → List ℕ → List ℕ → Type 0
+Laid head before after = (head .positions ≡ 0 → after ≡ before) × (0 < head .positions → Shows (toldBy head after) after)

@@ -2,6 +2,9 @@
 ghost use mathlib.Core.Path.{_≡_};
 ghost use denote.Ref.{name, now};
 ghost use lib.ListN.{length};
+ghost use Rattle.domain.specs.Coverage.{Alike};
+ghost use Rattle.keeper.specs.Calls.{Opens, Binds, Joins, Forgets};
+ghost use Rattle.list_keeper.specs.Keeping.{Laid};
 ghost use Rattle.list_keeper.specs.Tells.{toldBy};
 use crate::ListKeeper;
 use crate::change::bind_list;
@@ -41,12 +44,22 @@ pub impl Keeper for ListKeeper<'_> as ListKeeperKeeper {
 
     ghost capacity = { λ k. length (now (k .list)) };
 
-    fn open(&mut self, n: u8, scratch: &mut [u8]) -> Result<(), KeeperFault> {
+    fn open(&mut self, n: u8, scratch: &mut [u8]) -> Result<(), KeeperFault>
+        ensures opens { λ r. ⌜ Opens (length (now (now (self .entry) .list))) n (length (now (scratch .entry))) (toldBy (now (self .entry) .head) (now (now (self .entry) .list))) (toldBy (now (self .exit) .head) (now (now (self .exit) .list))) r ⌝ }
+        ensures same_capacity { λ _. ⌜ length (now (now (self .exit) .list)) ≡ length (now (now (self .entry) .list)) ⌝ }
+        ensures lent { λ _. ⌜ name (now (self .exit) .list) ≡ name (now (self .entry) .list) ⌝ }
+        ensures laid { λ _. ⌜ Laid (now (self .exit) .head) (now (now (self .entry) .list)) (now (now (self .exit) .list)) ⌝ }
+    {
         let ListKeeper { head, list } = self;
         open_list(head, list, n, scratch)
     }
 
-    fn bind(&mut self, position: u8, term: Term, scratch: &mut [u8]) -> Result<(), KeeperFault> {
+    fn bind(&mut self, position: u8, term: Term, scratch: &mut [u8]) -> Result<(), KeeperFault>
+        ensures binds { λ r. ⌜ Binds Alike (length (now (now (self .entry) .list))) position term (length (now (scratch .entry))) (toldBy (now (self .entry) .head) (now (now (self .entry) .list))) (toldBy (now (self .exit) .head) (now (now (self .exit) .list))) r ⌝ }
+        ensures same_capacity { λ _. ⌜ length (now (now (self .exit) .list)) ≡ length (now (now (self .entry) .list)) ⌝ }
+        ensures lent { λ _. ⌜ name (now (self .exit) .list) ≡ name (now (self .entry) .list) ⌝ }
+        ensures laid { λ _. ⌜ Laid (now (self .exit) .head) (now (now (self .entry) .list)) (now (now (self .exit) .list)) ⌝ }
+    {
         let ListKeeper { head, list } = self;
         bind_list(head, list, position, term, scratch)
     }
@@ -57,12 +70,22 @@ pub impl Keeper for ListKeeper<'_> as ListKeeperKeeper {
         linear: u16,
         groups: &[u16],
         scratch: &mut [u8],
-    ) -> Result<(), KeeperFault> {
+    ) -> Result<(), KeeperFault>
+        ensures joins { λ r. ⌜ Joins Alike (length (now (now (self .entry) .list))) free linear (now (groups .entry)) (length (now (scratch .entry))) (toldBy (now (self .entry) .head) (now (now (self .entry) .list))) (toldBy (now (self .exit) .head) (now (now (self .exit) .list))) r ⌝ }
+        ensures same_capacity { λ _. ⌜ length (now (now (self .exit) .list)) ≡ length (now (now (self .entry) .list)) ⌝ }
+        ensures lent { λ _. ⌜ name (now (self .exit) .list) ≡ name (now (self .entry) .list) ⌝ }
+        ensures laid { λ _. ⌜ Laid (now (self .exit) .head) (now (now (self .entry) .list)) (now (now (self .exit) .list)) ⌝ }
+    {
         let ListKeeper { head, list } = self;
         join_list(head, list, free, linear, groups, scratch)
     }
 
-    fn forget(&mut self, mask: u16, scratch: &mut [u8]) -> Result<(), KeeperFault> {
+    fn forget(&mut self, mask: u16, scratch: &mut [u8]) -> Result<(), KeeperFault>
+        ensures forgets { λ r. ⌜ Forgets Alike (length (now (now (self .entry) .list))) mask (length (now (scratch .entry))) (toldBy (now (self .entry) .head) (now (now (self .entry) .list))) (toldBy (now (self .exit) .head) (now (now (self .exit) .list))) r ⌝ }
+        ensures same_capacity { λ _. ⌜ length (now (now (self .exit) .list)) ≡ length (now (now (self .entry) .list)) ⌝ }
+        ensures lent { λ _. ⌜ name (now (self .exit) .list) ≡ name (now (self .entry) .list) ⌝ }
+        ensures laid { λ _. ⌜ Laid (now (self .exit) .head) (now (now (self .entry) .list)) (now (now (self .exit) .list)) ⌝ }
+    {
         let ListKeeper { head, list } = self;
         forget_list(head, list, mask, scratch)
     }

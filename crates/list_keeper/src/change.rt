@@ -1,4 +1,5 @@
 // The calls that change what a list keeper tells, over what it carries.
+ghost use mathlib.Core.Path.{_≡_};
 ghost use lib.ListN.{length};
 ghost use Rattle.domain.specs.Coverage.{Alike};
 ghost use Rattle.keeper.specs.Calls.{Opens, Binds, Joins, Forgets};
@@ -28,6 +29,7 @@ pub(crate) fn open_list(
 ) -> Result<(), KeeperFault>
     requires { ⌜ Kept (now head) (now list) ⌝ }
     ensures kept { λ _. ⌜ Kept (now (head .exit)) (now (list .exit)) ⌝ }
+    ensures untouched { λ _. ⌜ (now (head .exit) .positions ≡ 0 → now (list .exit) ≡ now (list .entry)) ⌝ }
     ensures opens { λ r. ⌜ Opens (length (now (list .entry))) n (length (now (scratch .entry))) (toldBy (now (head .entry)) (now (list .entry))) (toldBy (now (head .exit)) (now (list .exit))) r ⌝ }
 {
     if head.positions != 0 {
@@ -58,6 +60,7 @@ pub(crate) fn bind_list(
 ) -> Result<(), KeeperFault>
     requires { ⌜ Kept (now head) (now list) ⌝ }
     ensures kept { λ _. ⌜ Kept (now (head .exit)) (now (list .exit)) ⌝ }
+    ensures untouched { λ _. ⌜ (now (head .exit) .positions ≡ 0 → now (list .exit) ≡ now (list .entry)) ⌝ }
     ensures binds { λ r. ⌜ Binds Alike (length (now (list .entry))) position term (length (now (scratch .entry))) (toldBy (now (head .entry)) (now (list .entry))) (toldBy (now (head .exit)) (now (list .exit))) r ⌝ }
 {
     if head.positions == 0 {
@@ -78,6 +81,7 @@ pub(crate) fn join_list(
 ) -> Result<(), KeeperFault>
     requires { ⌜ Kept (now head) (now list) ⌝ }
     ensures kept { λ _. ⌜ Kept (now (head .exit)) (now (list .exit)) ⌝ }
+    ensures untouched { λ _. ⌜ (now (head .exit) .positions ≡ 0 → now (list .exit) ≡ now (list .entry)) ⌝ }
     ensures joins { λ r. ⌜ Joins Alike (length (now (list .entry))) free linear (now (groups .entry)) (length (now (scratch .entry))) (toldBy (now (head .entry)) (now (list .entry))) (toldBy (now (head .exit)) (now (list .exit))) r ⌝ }
 {
     if head.positions == 0 {
@@ -96,6 +100,7 @@ pub(crate) fn forget_list(
 ) -> Result<(), KeeperFault>
     requires { ⌜ Kept (now head) (now list) ⌝ }
     ensures kept { λ _. ⌜ Kept (now (head .exit)) (now (list .exit)) ⌝ }
+    ensures untouched { λ _. ⌜ (now (head .exit) .positions ≡ 0 → now (list .exit) ≡ now (list .entry)) ⌝ }
     ensures forgets { λ r. ⌜ Forgets Alike (length (now (list .entry))) mask (length (now (scratch .entry))) (toldBy (now (head .entry)) (now (list .entry))) (toldBy (now (head .exit)) (now (list .exit))) r ⌝ }
 {
     if head.positions == 0 {

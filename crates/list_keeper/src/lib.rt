@@ -8,6 +8,8 @@ mod entries;
 mod head;
 mod load;
 mod store;
+#[cfg(test)]
+mod tests;
 
 use crate::head::Head;
 

@@ -1,4 +1,5 @@
 // Keeping the core of a table.
+ghost use mathlib.Core.Path.{_≡_};
 ghost use Prim.Native.Nat.{_<_};
 ghost use lib.ListN.{length};
 ghost use Rattle.domain.specs.Tables.{toldWith};
@@ -24,6 +25,7 @@ pub(crate) fn store(
     requires few { ⌜ marks .positions < 13 ⌝ }
     requires kept { ⌜ Kept (now head) (now list) ⌝ }
     ensures kept { λ _. ⌜ Kept (now (head .exit)) (now (list .exit)) ⌝ }
+    ensures untouched { λ _. ⌜ (now (head .exit) .positions ≡ 0 → now (list .exit) ≡ now (list .entry)) ⌝ }
     ensures stores { λ r. ⌜ Stores (toldWith marks (now (table .entry))) (length (now (list .entry))) (toldBy (now (head .entry)) (now (list .entry))) (toldBy (now (head .exit)) (now (list .exit))) r ⌝ }
 {
     let count = match write_core(table, marks.positions, list) {

@@ -1,4 +1,4 @@
-use mathlib.Core.Path.{_≡_, ap, _∙_}
+use mathlib.Core.Path.{_≡_, refl, ap, _∙_}
 use Prim.Native.Nat.{ℕ, _<_, _≤_}
 use native.Mathlib.Omega.{arith}
 use lib.ListN.{length}
@@ -23,8 +23,9 @@ returns-in-Break-marks c =
     let long : length (c .load-before .last .table) ≡ length (c .args .scratch .now) = omega arith in
     record {
       kept = c .pre;
+      untouched = λ _. refl;
       joins = rule-refused (λ d e. Joined d (c .args .free) (c .args .linear) (c .args .groups .now) e) (λ n k. firstOf (joinTests n (c .args .free) (c .args .linear) (c .args .groups .now) k)) (c .load-before .result) head list (c .load-before .last .table) (length (c .args .scratch .now))
-          some (c .pre .few) (c .load-before .ensures .positions) long (c .in-Break-marks .field-0 .0) _ (c .in-Break-marks .ensures tt .gives)
+          some (c .pre .few) (c .load-before .ensures .positions) long (c .in-Break-marks .field-0 .0) (c .join-table .last .table) (c .in-Break-marks .ensures tt .gives)
           (length list) (c .from-residual .result) (p .1 ∙ ap (λ (x : KeeperFault). Err x) (p .2));
     }
 
@@ -40,6 +41,7 @@ returns c =
       (c .load-before .ensures .told) (c .in-Continue-marks .marks) (c .join-table .last .table) (c .in-Continue-marks .ensures tt .gives) in
     record {
       kept = c .store .ensures .kept;
+      untouched = c .store .ensures .untouched;
       joins = rule-stored (λ d e. Joined d (c .args .free) (c .args .linear) (c .args .groups .now) e) (λ n k. firstOf (joinTests n (c .args .free) (c .args .linear) (c .args .groups .now) k)) (c .load-before .result) head list (c .load-before .last .table) len
           some (c .pre .few) (c .load-before .ensures .positions) long (made .0) (toldWith (c .in-Continue-marks .marks) (c .join-table .last .table)) (made .1)
           (length list) (toldBy (c .store .last .head) (c .store .last .list)) (c .store .result) (c .store .ensures .stores);

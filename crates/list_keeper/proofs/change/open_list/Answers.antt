@@ -17,6 +17,7 @@ returns c =
     let room : 512 ≤ length (c .args .scratch .now) = omega arith in
     record {
       kept = c .store .ensures .kept;
+      untouched = c .store .ensures .untouched;
       opens = opens-stored n (length (c .args .scratch .now)) _
           (new-of n (c .put-singles .last .table) (c .put-singles .ensures) _ (ap (λ (k : ℕ). k - 1) (shifted-end n (omega arith))))
           some few room (length (c .args .list .now)) (toldBy (c .args .head .now) (c .args .list .now))

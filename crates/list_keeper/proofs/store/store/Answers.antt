@@ -15,6 +15,7 @@ returns-in-Err c =
       (c .in-Err .ensures tt (m .free) (m .linear)) in
     record {
       kept = subst (λ (l : List ℕ). Kept (c .args .head .now) l) (sym (r .1)) (c .pre .kept);
+      untouched = λ _. r .1;
       stores = (c .into .ensures, ap (λ (l : List ℕ). toldBy (c .args .head .now) l) (r .1), r .2);
     }
 
@@ -27,5 +28,6 @@ returns c =
     let long : length (c .clear .last .list) ≡ length (c .args .list .now) = omega arith in
     record {
       kept = stored-kept m (c .args .table .now) (c .args .list .now) (c .write-core .last .list) (c .clear .last .list) (c .in-Ok .count) (c .pre .some) (c .pre .few) w same long (c .clear .ensures .front) (c .clear .ensures .zero);
+      untouched = λ e. absurd (let some = c .pre .some in omega arith);
       stores = stored m (c .args .table .now) (c .args .list .now) (c .write-core .last .list) (c .clear .last .list) (c .in-Ok .count) (c .pre .some) (c .pre .few) w same long (c .clear .ensures .front) (c .clear .ensures .zero);
     }
