@@ -112,7 +112,7 @@ open-passes n some few =
 fills-inside : {G : ℕ → Type 0} (list list′ : List ℕ) (count : ℕ) → FillsCore G list list′ count → length list′ ≡ length list → count ≤ length list
 fills-inside list list′ count w same =
     let long : length list′ ≡ length (w .groups) + (length list - count) =
-      ap length (w .at-start) ∙ length-append (w .groups) (drop count list) ∙ ap (λ (k : ℕ). length (w .groups) + k) (length-drop count list) in
+    ap length (w .at-start) ∙ length-append (w .groups) (drop count list) ∙ ap (λ (k : ℕ). length (w .groups) + k) (length-drop count list) in
     let counted = w .counted in
     omega arith
 

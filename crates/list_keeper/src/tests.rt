@@ -81,5 +81,10 @@ fn a_list_of_five_is_not() -> Result<(), Fail> {
 fn an_empty_list_takes_nothing() -> Result<(), Fail> {
     let mut keeper = ListKeeper::new(&mut []);
     check_eq(keeper.open(1, &mut [0; 512]), refused(Refusal::Capacity))?;
-    check_eq(keeper.is_ground(0), Err(KeeperFault { refusal: Refusal::Order }))
+    check_eq(
+        keeper.is_ground(0),
+        Err(KeeperFault {
+            refusal: Refusal::Order,
+        }),
+    )
 }

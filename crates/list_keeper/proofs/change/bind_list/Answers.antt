@@ -37,8 +37,8 @@ returns c =
     let some : 0 < head .positions = omega (arith, c .if-head-eq0 .left) in
     let long : length (c .load-before .last .table) ≡ len = omega arith in
     let made = rule-made (λ d e. Bound d (c .args .position) (c .args .term) e) (λ n k. firstOf (bindTests n (c .args .position) (c .args .term) k)) (c .load-before .result) head list (c .load-before .last .table) len
-      some (c .pre .few) (c .load-before .ensures .positions) long (λ h. bind-allowed (head .positions) (c .args .position) (c .args .term) len h .1 .1 .1)
-      (c .load-before .ensures .told) (c .in-Continue-marks .marks) (c .bind-table .last .table) (c .in-Continue-marks .ensures tt .gives) in
+    some (c .pre .few) (c .load-before .ensures .positions) long (λ h. bind-allowed (head .positions) (c .args .position) (c .args .term) len h .1 .1 .1)
+    (c .load-before .ensures .told) (c .in-Continue-marks .marks) (c .bind-table .last .table) (c .in-Continue-marks .ensures tt .gives) in
     record {
       kept = c .store .ensures .kept;
       untouched = c .store .ensures .untouched;

@@ -37,8 +37,8 @@ returns c =
     let some : 0 < head .positions = omega (arith, c .if-head-eq0 .left) in
     let long : length (c .load-before .last .table) ≡ len = omega arith in
     let made = rule-made (λ d e. Joined d (c .args .free) (c .args .linear) (c .args .groups .now) e) (λ n k. firstOf (joinTests n (c .args .free) (c .args .linear) (c .args .groups .now) k)) (c .load-before .result) head list (c .load-before .last .table) len
-      some (c .pre .few) (c .load-before .ensures .positions) long (λ h. join-allowed (head .positions) (c .args .free) (c .args .linear) (c .args .groups .now) len h .1)
-      (c .load-before .ensures .told) (c .in-Continue-marks .marks) (c .join-table .last .table) (c .in-Continue-marks .ensures tt .gives) in
+    some (c .pre .few) (c .load-before .ensures .positions) long (λ h. join-allowed (head .positions) (c .args .free) (c .args .linear) (c .args .groups .now) len h .1)
+    (c .load-before .ensures .told) (c .in-Continue-marks .marks) (c .join-table .last .table) (c .in-Continue-marks .ensures tt .gives) in
     record {
       kept = c .store .ensures .kept;
       untouched = c .store .ensures .untouched;

@@ -12,7 +12,7 @@ pub returns-in-Err : need.returns-in-Err
 returns-in-Err c =
     let m = c .args .marks in
     let r = refused m (c .args .table .now) (c .args .list .now) (c .write-core .last .list) (c .in-Err .field-0) (c .pre .some) (c .pre .few)
-      (c .in-Err .ensures tt (m .free) (m .linear)) in
+    (c .in-Err .ensures tt (m .free) (m .linear)) in
     record {
       kept = subst (λ (l : List ℕ). Kept (c .args .head .now) l) (sym (r .1)) (c .pre .kept);
       untouched = λ _. r .1;
@@ -23,7 +23,7 @@ pub returns : need.returns
 returns c =
     let m = c .args .marks in
     let w = wrote m (c .args .table .now) (c .args .list .now) (c .write-core .last .list) (c .in-Ok .count) (c .pre .some) (c .pre .few)
-      (c .in-Ok .ensures tt (m .free) (m .linear)) in
+    (c .in-Ok .ensures tt (m .free) (m .linear)) in
     let same : length (c .write-core .last .list) ≡ length (c .args .list .now) = omega arith in
     let long : length (c .clear .last .list) ≡ length (c .args .list .now) = omega arith in
     record {
