@@ -1,0 +1,4 @@
+pub mod Listing
+pub mod Keeping
+pub mod Changes
+pub mod Asking

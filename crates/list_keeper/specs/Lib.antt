@@ -1,0 +1,4 @@
+pub mod Entries
+pub mod Lawful
+pub mod Tells
+pub mod Keeping
