@@ -1,5 +1,6 @@
 pub mod Arguments
 pub mod Digits
+pub mod Groups
 pub mod Occurrences
 pub mod Runs
 pub mod Transcripts

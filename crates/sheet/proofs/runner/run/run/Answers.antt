@@ -5,7 +5,6 @@ use Rattle.sheet.proofs.runner.run.run.Needs as need
 pub returns-then-sheet-gt-LONGEST-SHEET : need.returns-then-sheet-gt-LONGEST-SHEET
 returns-then-sheet-gt-LONGEST-SHEET g c =
     record {
-      ran = rw (c .at .ensures) (runs-too-long _ _ _ _ _ (c .if-sheet-gt-LONGEST-SHEET .taken));
+      ran = rw (c .at .ensures) (runs-too-long _ _ _ _ _ _ (c .if-sheet-gt-LONGEST-SHEET .taken));
       same-capacity = refl;
-      same-groups = refl;
     }
