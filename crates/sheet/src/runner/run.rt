@@ -2,6 +2,7 @@
 ghost use mathlib.Core.Path.{_≡_};
 ghost use lib.ListN.{length};
 ghost use Prim.Native.Nat.{_≤_};
+ghost use Rattle.sheet.specs.Meaning.{SameEverywhere};
 ghost use Rattle.sheet.specs.Playing.{Ran};
 ghost use Rattle.sheet.specs.Turning.{endOf};
 use crate::fault::ReaderFault;
@@ -28,6 +29,7 @@ pub fn run<K: Keeper>(
     scratch: &mut [u8],
 ) -> Result<usize, SheetFault>
     ensures ran { λ r. ⌜ Ran (K·Keeper .capacity (now (keeper .entry))) (length (now (scratch .entry))) (now (sheet .entry)) (length (now (groups .entry))) (K·Keeper .told (now (keeper .entry))) (K·Keeper .told (now (keeper .exit))) (now (marks .entry)) (now (marks .exit)) r ⌝ }
+    ensures same_everywhere { λ r. ⌜ SameEverywhere (K·Keeper .capacity (now (keeper .entry))) (length (now (scratch .entry))) (now (sheet .entry)) (length (now (groups .entry))) (K·Keeper .told (now (keeper .entry))) (K·Keeper .told (now (keeper .exit))) (now (marks .entry)) (now (marks .exit)) r ⌝ }
     ensures same_capacity { λ _. ⌜ K·Keeper .capacity (now (keeper .exit)) ≡ K·Keeper .capacity (now (keeper .entry)) ⌝ }
 {
     if sheet.len() > LONGEST_SHEET {
