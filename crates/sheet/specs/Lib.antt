@@ -10,5 +10,6 @@ pub mod Faults
 pub mod Running
 pub mod Serving
 pub mod Playing
+pub mod Meaning
 pub mod Turning
 pub mod Transcripts

@@ -1,7 +1,7 @@
 -- A record: a two-byte length of its payload, a two-byte kind, then the payload.
 use mathlib.Core.Path.{_≡_}
-use mathlib.Core.List.{List}
-use Prim.Native.Nat.{ℕ, _+_, _-_, _*_, _≤_}
+use mathlib.Core.List.{List, [], _∷_}
+use Prim.Native.Nat.{ℕ, zero, suc, _+_, _-_, _*_, _≤_}
 use lib.Dec.{ltb, leb}
 use lib.ListN.{getD, length}
 use Rattle.domain.specs.declared.refusal.Refusal.the-variants.{Truncated, Position}
@@ -15,6 +15,11 @@ byteAt bytes i = getD bytes i 0
 -- two bytes, little-endian
 abbrev pub pairAt : List ℕ → ℕ → ℕ
 pairAt bytes i = byteAt bytes i + 256 * byteAt bytes (i + 1)
+
+-- so many pairs of bytes, from a place on
+abbrev pub groupsAt : List ℕ → ℕ → ℕ → List ℕ
+groupsAt bytes start zero = []
+groupsAt bytes start (suc count) = pairAt bytes start ∷ groupsAt bytes (start + 2) count
 
 -- the record at a place, refused where it runs past the end
 abbrev pub recordAt : List ℕ → ℕ → ℕ → Read Record

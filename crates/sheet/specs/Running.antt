@@ -9,7 +9,7 @@ use Rattle.std.specs.declared.result.Result.{Result}
 use Rattle.std.specs.declared.result.Result.the-variants.{Ok, Err}
 use Rattle.domain.specs.declared.refusal.Refusal.the-variants.{Truncated, Length, Order, Room}
 use Rattle.sheet.specs.Records.{recordAt}
-use Rattle.sheet.specs.Steps.{stepKindOf, stepOf}
+use Rattle.sheet.specs.Steps.{stepKindOf, stepOf, groupCount}
 use Rattle.sheet.specs.declared.fault.ReaderFault.{ReaderFault}
 use Rattle.sheet.specs.declared.fault.RunnerFault.{RunnerFault}
 use Rattle.sheet.specs.declared.fault.RunnerFault.the-variants.{Reader, Runner, Keeper}
@@ -18,20 +18,26 @@ use Rattle.sheet.specs.declared.runner.state.State.{State}
 use Rattle.sheet.specs.declared.runner.state.State.the-variants.{New, Opened, Ended}
 use Rattle.sheet.specs.declared.step.Step.{Step}
 use Rattle.sheet.specs.declared.step.StepKind.{StepKind}
-use Rattle.sheet.specs.declared.step.StepKind.the-variants.{Open, Bind, Ask, End}
+use Rattle.sheet.specs.declared.step.StepKind.the-variants.{Open, Bind, Join, Forget, Ask, End}
 
 -- the state after a step: a sheet opens once and first, and nothing follows its end
 abbrev pub moveOf : State → StepKind → Result State RunnerFault
 moveOf New Open = Ok Opened
 moveOf New Bind = Err (Runner Order)
+moveOf New Join = Err (Runner Order)
+moveOf New Forget = Err (Runner Order)
 moveOf New Ask = Err (Runner Order)
 moveOf New End = Err (Runner Order)
 moveOf Opened Open = Err (Runner Order)
 moveOf Opened Bind = Ok Opened
+moveOf Opened Join = Ok Opened
+moveOf Opened Forget = Ok Opened
 moveOf Opened Ask = Ok Opened
 moveOf Opened End = Ok Ended
 moveOf Ended Open = Err (Runner Order)
 moveOf Ended Bind = Err (Runner Order)
+moveOf Ended Join = Err (Runner Order)
+moveOf Ended Forget = Err (Runner Order)
 moveOf Ended Ask = Err (Runner Order)
 moveOf Ended End = Err (Runner Order)
 
@@ -72,24 +78,27 @@ closing New at = broken at (Reader (record { refusal = Truncated; place = at }))
 closing Opened at = broken at (Reader (record { refusal = Truncated; place = at }))
 closing Ended at = finished
 
--- one step more, if there is room for its mark; `rest` goes on after it
-abbrev pub turn : (ℕ → State → ℕ → Script) → ℕ → Result Next RunnerFault → ℕ → Script
-turn rest at (Err f) room = broken at f
-turn rest at (Ok next) zero = broken at (Runner Room)
-turn rest at (Ok next) (suc room) = follows at (next .step) (rest room (next .state) (next .end))
+-- one step more, if there is room for its mark and then for its groups; `rest` goes on after it
+abbrev pub turn : (ℕ → State → ℕ → Script) → ℕ → ℕ → Result Next RunnerFault → ℕ → Script
+turn rest groups at (Err f) room = broken at f
+turn rest groups at (Ok next) zero = broken at (Runner Room)
+turn rest groups at (Ok next) (suc room) =
+    cond (ltb groups (groupCount (next .step)))
+    (broken at (Runner Room))
+    (follows at (next .step) (rest room (next .state) (next .end)))
 
--- the script from a place on, with room for so many marks; a record has four bytes or more,
--- so that more turns than bytes are never wanted
-unfoldable pub scriptFrom : ℕ → List ℕ → ℕ → State → ℕ → Script
-scriptFrom zero sheet room state at = closing state at
-scriptFrom (suc turns) sheet room state at =
+-- the script from a place on, with room for so many groups at a time and so many marks in all;
+-- a record has four bytes or more, so that more turns than bytes are never wanted
+unfoldable pub scriptFrom : ℕ → List ℕ → ℕ → ℕ → State → ℕ → Script
+scriptFrom zero sheet groups room state at = closing state at
+scriptFrom (suc turns) sheet groups room state at =
     cond (ltb at (length sheet))
-    (turn (scriptFrom turns sheet) at (nextAt sheet state at) room)
+    (turn (scriptFrom turns sheet groups) groups at (nextAt sheet state at) room)
     (closing state (length sheet))
 
--- a sheet has at most 65,535 bytes
-abbrev pub scriptOf : List ℕ → ℕ → Script
-scriptOf sheet room =
+-- the script of a whole sheet, which has at most 65,535 bytes
+abbrev pub scriptOf : List ℕ → ℕ → ℕ → Script
+scriptOf sheet groups room =
     cond (ltb 65535 (length sheet))
     (broken 0 (Reader (record { refusal = Length; place = 0 })))
-    (scriptFrom (suc (length sheet)) sheet room New 0)
+    (scriptFrom (suc (length sheet)) sheet groups room New 0)

@@ -13,6 +13,7 @@ use Rattle.keeper.specs.declared.fault.KeeperFault.{KeeperFault}
 use Rattle.sheet.specs.Faults.{faultAt}
 use Rattle.sheet.specs.Playing.{markOf}
 use Rattle.sheet.specs.Serving.{Serves}
+use Rattle.sheet.specs.Steps.{groupCount}
 use Rattle.sheet.specs.declared.fault.RunnerFault.{RunnerFault}
 use Rattle.sheet.specs.declared.fault.RunnerFault.the-variants.{Reader, Runner, Keeper}
 use Rattle.sheet.specs.declared.fault.SheetFault.{SheetFault}
@@ -29,18 +30,20 @@ Marks c next (Ok b) marks marks′ r =
     × (marks′ ≡ set marks (c .step) (markOf (c .at) (next .step) b))
 Marks c next (Err f) marks marks′ r = (r ≡ Err (Keeper f)) × (marks′ ≡ marks)
 
--- with room for the mark or without
-abbrev pub Hands : Bool → ℕ → ℕ → Cursor → Next → Told → Told → List StepMark → List StepMark → Result Cursor RunnerFault → Type 0
-Hands true capacity scratch c next before after marks marks′ r =
-    (answer : Result Bool KeeperFault) × Serves capacity scratch (next .step) before after answer × Marks c next answer marks marks′ r
-Hands false capacity scratch c next before after marks marks′ r =
+-- with room for the mark or without, and with too many groups or not
+abbrev pub Hands : Bool → Bool → ℕ → ℕ → List ℕ → Cursor → Next → Told → Told → List StepMark → List StepMark → Result Cursor RunnerFault → Type 0
+Hands false many capacity scratch sheet c next before after marks marks′ r =
     (r ≡ Err (Runner Room)) × (after ≡ before) × (marks′ ≡ marks)
+Hands true true capacity scratch sheet c next before after marks marks′ r =
+    (r ≡ Err (Runner Room)) × (after ≡ before) × (marks′ ≡ marks)
+Hands true false capacity scratch sheet c next before after marks marks′ r =
+    (answer : Result Bool KeeperFault) × Serves capacity scratch sheet (next .step) before after answer × Marks c next answer marks marks′ r
 
 -- with a next step or without
-abbrev pub Turns : ℕ → ℕ → Cursor → Result Next RunnerFault → Told → Told → List StepMark → List StepMark → Result Cursor RunnerFault → Type 0
-Turns capacity scratch c (Err f) before after marks marks′ r = (r ≡ Err f) × (after ≡ before) × (marks′ ≡ marks)
-Turns capacity scratch c (Ok next) before after marks marks′ r =
-    Hands (ltb (c .step) (length marks)) capacity scratch c next before after marks marks′ r
+abbrev pub Turns : ℕ → ℕ → List ℕ → ℕ → Cursor → Result Next RunnerFault → Told → Told → List StepMark → List StepMark → Result Cursor RunnerFault → Type 0
+Turns capacity scratch sheet groups c (Err f) before after marks marks′ r = (r ≡ Err f) × (after ≡ before) × (marks′ ≡ marks)
+Turns capacity scratch sheet groups c (Ok next) before after marks marks′ r =
+    Hands (ltb (c .step) (length marks)) (ltb groups (groupCount (next .step))) capacity scratch sheet c next before after marks marks′ r
 
 -- the bytes are used up
 abbrev pub endIn : State → ℕ → ℕ → Result ℕ SheetFault

@@ -80,6 +80,27 @@ fn nests_sixteen_deep() -> Result<(), Fail> {
     refused(&tower(17), Refusal::Depth, 101)
 }
 
+fn joined(sheet: &[u8], free: u16, linear: u16, start: usize, count: usize) -> Result<(), Fail> {
+    let step = Step::Join {
+        free,
+        linear,
+        start,
+        count,
+    };
+    check_eq(first(sheet), Ok(step))
+}
+
+#[test]
+fn joins() -> Result<(), Fail> {
+    joined(b"\x04\0\x03\0\x01\x02\x03\x04", 0x0201, 0x0403, 8, 0)?;
+    joined(b"\x08\0\x03\0\x05\0\x07\0\x01\0\x06\x08", 5, 7, 8, 2)
+}
+
+#[test]
+fn forgets() -> Result<(), Fail> {
+    check_eq(first(b"\x02\0\x04\0\x03\x08"), Ok(Step::Forget(0x0803)))
+}
+
 fn asked(sheet: &[u8], question: Question) -> Result<(), Fail> {
     check_eq(first(sheet), Ok(Step::Ask(question)))
 }
@@ -96,10 +117,13 @@ fn questions() -> Result<(), Fail> {
 fn refusals() -> Result<(), Fail> {
     refused(b"\x01\0\x01", Refusal::Truncated, 0)?;
     refused(b"\x06\0\x02\0\0\x02\0\x11\0\x01", Refusal::Truncated, 5)?;
-    refused(b"\0\0\x03\0", Refusal::Kind, 0)?;
+    refused(b"\0\0\x07\0", Refusal::Kind, 0)?;
     refused(b"\x06\0\x02\0\0\x01\0\x06\0\x01", Refusal::Kind, 5)?;
     refused(b"\x01\0\x06\0\0", Refusal::Length, 0)?;
     refused(b"\x07\0\x02\0\0\x01\0\x11\0\x01\0", Refusal::Length, 0)?;
+    refused(b"\x02\0\x03\0\0\0", Refusal::Length, 0)?;
+    refused(b"\x05\0\x03\0\0\0\0\0\0", Refusal::Length, 0)?;
+    refused(b"\x03\0\x04\0\0\0\0", Refusal::Length, 0)?;
     refused(b"\x03\0\x05\0g\0\0", Refusal::Length, 0)?;
     refused(b"\x06\0\x02\0\0\x01\0\x11\0\x0c", Refusal::Position, 5)?;
     refused(b"\x02\0\x05\0g\x0c", Refusal::Position, 0)?;
@@ -115,6 +139,13 @@ fn lines(rt: LibcRuntime) -> Result<(), Fail> {
     };
     let line = mark_line(rt.alloc(), mark)?;
     check_eq(line.as_str(), "15 ask yes\n")?;
+    let mark = StepMark {
+        place: 7,
+        kind: StepKind::Forget,
+        answer: true,
+    };
+    let line = mark_line(rt.alloc(), mark)?;
+    check_eq(line.as_str(), "7 forget yes\n")?;
     let line = refusal_line(rt.alloc(), 7, 5, 1, Layer::Keeper)?;
     check_eq(line.as_str(), "refused 7 at 5 step 1 keeper\n")
 }

@@ -1,8 +1,8 @@
 ghost use mathlib.Core.Path.{_≡_};
-ghost use Prim.Native.Nat.{_≤_, _<_};
+ghost use Prim.Native.Nat.{_+_, _≤_, _<_};
 ghost use lib.ListN.{length};
 ghost use Rattle.std.specs.Vec.{made};
-ghost use Rattle.sheet.specs.Records.{recordAt, payload, positionAt, Within, Part};
+ghost use Rattle.sheet.specs.Records.{recordAt, pairAt, payload, positionAt, Within, Part};
 use crate::fault::ReaderFault;
 use domain::refusal::Refusal;
 
@@ -32,8 +32,8 @@ impl Record {
         if end - at < HEAD {
             return Err(ReaderFault { refusal, place: at });
         }
-        let length = u16::from_le_bytes([sheet[at], sheet[at + 1]]) as usize;
-        let kind = u16::from_le_bytes([sheet[at + 2], sheet[at + 3]]);
+        let length = pair(sheet, at) as usize;
+        let kind = pair(sheet, at + 2);
         let start = at + HEAD;
         if end - start < length {
             return Err(ReaderFault { refusal, place: at });
@@ -77,4 +77,12 @@ impl Record {
             Err(self.fault(Refusal::Position))
         }
     }
+}
+
+// Two bytes of the sheet, little-endian.
+pub(crate) fn pair(sheet: &[u8], at: usize) -> u16
+    requires { ⌜ at + 1 < length (now sheet) ⌝ }
+    ensures { λ r. ⌜ r ≡ pairAt (now (sheet .entry)) at ⌝ }
+{
+    u16::from_le_bytes([sheet[at], sheet[at + 1]])
 }

@@ -4,6 +4,7 @@ ghost use Prim.Native.Nat.{_<_, _≤_};
 ghost use lib.ListN.{length};
 ghost use Rattle.std.specs.Vec.{made};
 ghost use Rattle.sheet.specs.Running.{nextAt};
+ghost use Rattle.sheet.specs.Steps.{Inside};
 use crate::fault::RunnerFault;
 use crate::fault::RunnerFaultFromReader;
 use crate::reader::record::Record;
@@ -25,6 +26,7 @@ pub(crate) fn next_step(sheet: &[u8], state: State, at: usize) -> Result<Next, R
     requires { ⌜ at < length (now sheet) ⌝ }
     ensures value { λ r. ⌜ r ≡ nextAt (now (sheet .entry)) state at ⌝ }
     ensures within { λ r. ⌜ made r (λ x. (at < x .end) × (x .end ≤ length (now (sheet .entry)))) ⌝ }
+    ensures inside { λ r. ⌜ made r (λ x. Inside (now (sheet .entry)) (x .step)) ⌝ }
 {
     if let State::Ended = state {
         return Err(RunnerFault::Runner(Refusal::Order));

@@ -2,6 +2,7 @@
 ghost use mathlib.Core.Path.{_≡_};
 ghost use lib.ListN.{length};
 ghost use Prim.Native.Nat.{_≤_};
+ghost use Rattle.sheet.specs.Meaning.{SameEverywhere};
 ghost use Rattle.sheet.specs.Playing.{Ran};
 ghost use Rattle.sheet.specs.Turning.{endOf};
 use crate::fault::ReaderFault;
@@ -18,8 +19,8 @@ use keeper::keeper::Keeper;
 pub const LONGEST_SHEET: usize = 65_535;
 
 // Runs a sheet: the number of its steps, or the fault at which it stops. The lists are work lists:
-// the marks of the steps that were done stand at the start of `marks`, the others stay, and so does
-// `groups`, which is for the groups of a join; the contents of `scratch` afterwards are free.
+// the marks of the steps that were done stand at the start of `marks`, and the others stay; `groups`
+// takes the groups of a join, and its contents and those of `scratch` afterwards are free.
 pub fn run<K: Keeper>(
     keeper: &mut K,
     sheet: &[u8],
@@ -27,9 +28,9 @@ pub fn run<K: Keeper>(
     groups: &mut [u16],
     scratch: &mut [u8],
 ) -> Result<usize, SheetFault>
-    ensures ran { λ r. ⌜ Ran (K·Keeper .capacity (now (keeper .entry))) (length (now (scratch .entry))) (now (sheet .entry)) (K·Keeper .told (now (keeper .entry))) (K·Keeper .told (now (keeper .exit))) (now (marks .entry)) (now (marks .exit)) r ⌝ }
+    ensures ran { λ r. ⌜ Ran (K·Keeper .capacity (now (keeper .entry))) (length (now (scratch .entry))) (now (sheet .entry)) (length (now (groups .entry))) (K·Keeper .told (now (keeper .entry))) (K·Keeper .told (now (keeper .exit))) (now (marks .entry)) (now (marks .exit)) r ⌝ }
+    ensures same_everywhere { λ r. ⌜ SameEverywhere (K·Keeper .capacity (now (keeper .entry))) (length (now (scratch .entry))) (now (sheet .entry)) (length (now (groups .entry))) (K·Keeper .told (now (keeper .entry))) (K·Keeper .told (now (keeper .exit))) (now (marks .entry)) (now (marks .exit)) r ⌝ }
     ensures same_capacity { λ _. ⌜ K·Keeper .capacity (now (keeper .exit)) ≡ K·Keeper .capacity (now (keeper .entry)) ⌝ }
-    ensures same_groups { λ _. ⌜ now (groups .exit) ≡ now (groups .entry) ⌝ }
 {
     if sheet.len() > LONGEST_SHEET {
         let fault = ReaderFault {
@@ -38,18 +39,18 @@ pub fn run<K: Keeper>(
         };
         return Err(RunnerFault::Reader(fault).at(0, 0));
     }
-    let _ = groups;
-    run_steps(keeper, sheet, marks, scratch)
+    run_steps(keeper, sheet, marks, groups, scratch)
 }
 
 fn run_steps<K: Keeper>(
     keeper: &mut K,
     sheet: &[u8],
     marks: &mut [StepMark],
+    groups: &mut [u16],
     scratch: &mut [u8],
 ) -> Result<usize, SheetFault>
     requires { ⌜ length (now sheet) ≤ 65535 ⌝ }
-    ensures ran { λ r. ⌜ Ran (K·Keeper .capacity (now (keeper .entry))) (length (now (scratch .entry))) (now (sheet .entry)) (K·Keeper .told (now (keeper .entry))) (K·Keeper .told (now (keeper .exit))) (now (marks .entry)) (now (marks .exit)) r ⌝ }
+    ensures ran { λ r. ⌜ Ran (K·Keeper .capacity (now (keeper .entry))) (length (now (scratch .entry))) (now (sheet .entry)) (length (now (groups .entry))) (K·Keeper .told (now (keeper .entry))) (K·Keeper .told (now (keeper .exit))) (now (marks .entry)) (now (marks .exit)) r ⌝ }
     ensures same_capacity { λ _. ⌜ K·Keeper .capacity (now (keeper .exit)) ≡ K·Keeper .capacity (now (keeper .entry)) ⌝ }
 {
     let mut cursor = Cursor {
@@ -58,7 +59,7 @@ fn run_steps<K: Keeper>(
         step: 0,
     };
     while cursor.at < sheet.len() {
-        match take_step(keeper, sheet, cursor, marks, scratch) {
+        match take_step(keeper, sheet, cursor, marks, groups, scratch) {
             Ok(next) => cursor = next,
             Err(fault) => return Err(fault.at(cursor.step, cursor.at)),
         }

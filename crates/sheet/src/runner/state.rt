@@ -19,9 +19,13 @@ impl State {
     {
         match (self, kind) {
             (State::New, StepKind::Open) => Ok(State::Opened),
-            (State::Opened, StepKind::Bind | StepKind::Ask) => Ok(State::Opened),
+            (State::Opened, StepKind::Bind | StepKind::Join | StepKind::Forget | StepKind::Ask) =>
+                Ok(State::Opened),
             (State::Opened, StepKind::End) => Ok(State::Ended),
-            (State::New, StepKind::Bind | StepKind::Ask | StepKind::End)
+            (
+                State::New,
+                StepKind::Bind | StepKind::Join | StepKind::Forget | StepKind::Ask | StepKind::End,
+            )
             | (State::Opened, StepKind::Open)
             | (State::Ended, _) => Err(RunnerFault::Runner(Refusal::Order)),
         }

@@ -28,10 +28,11 @@ pub(crate) fn take_step<K: Keeper>(
     sheet: &[u8],
     cursor: Cursor,
     marks: &mut [StepMark],
+    groups: &mut [u16],
     scratch: &mut [u8],
 ) -> Result<Cursor, RunnerFault>
     requires { ⌜ cursor .at < length (now sheet) ⌝ ∗ ⌜ length (now sheet) ≤ 65535 ⌝ }
-    ensures turns { λ r. ⌜ Turns (K·Keeper .capacity (now (keeper .entry))) (length (now (scratch .entry))) cursor (nextAt (now (sheet .entry)) (cursor .state) (cursor .at)) (K·Keeper .told (now (keeper .entry))) (K·Keeper .told (now (keeper .exit))) (now (marks .entry)) (now (marks .exit)) r ⌝ }
+    ensures turns { λ r. ⌜ Turns (K·Keeper .capacity (now (keeper .entry))) (length (now (scratch .entry))) (now (sheet .entry)) (length (now (groups .entry))) cursor (nextAt (now (sheet .entry)) (cursor .state) (cursor .at)) (K·Keeper .told (now (keeper .entry))) (K·Keeper .told (now (keeper .exit))) (now (marks .entry)) (now (marks .exit)) r ⌝ }
     ensures onward { λ r. ⌜ made r (λ c. (cursor .at < c .at) × (c .at ≤ length (now (sheet .entry))) × (c .step ≡ cursor .step + 1)) ⌝ }
     ensures same_capacity { λ _. ⌜ K·Keeper .capacity (now (keeper .exit)) ≡ K·Keeper .capacity (now (keeper .entry)) ⌝ }
 {
@@ -39,7 +40,10 @@ pub(crate) fn take_step<K: Keeper>(
     if cursor.step >= marks.len() {
         return Err(RunnerFault::Runner(Refusal::Room));
     }
-    let answer = serve(keeper, next.step, scratch)?;
+    if next.step.groups() > groups.len() {
+        return Err(RunnerFault::Runner(Refusal::Room));
+    }
+    let answer = serve(keeper, sheet, next.step, groups, scratch)?;
     marks[cursor.step] = StepMark {
         place: cursor.at as u16,
         kind: next.step.kind(),
