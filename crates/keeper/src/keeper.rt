@@ -6,8 +6,9 @@ ghost use lib.ListN.{length};
 ghost use Rattle.domain.specs.Coverage.{Alike};
 ghost use Rattle.domain.specs.Masks.{In};
 ghost use Rattle.domain.specs.Told.{Told, Share, Ground};
-ghost use Rattle.keeper.specs.Calls.{Opens, Binds, Joins, Forgets, Answers, askRefusal, pairRefusal};
+ghost use Rattle.keeper.specs.Calls.{Opens, Binds, Joins, Forgets, Writes, Answers, askRefusal, pairRefusal};
 use crate::fault::KeeperFault;
+use crate::write_out::WrittenOut;
 use domain::term::Term;
 
 // Open, bind, join and forget borrow scratch, whose contents afterwards are free. The contracts name, for all
@@ -31,13 +32,7 @@ pub trait Keeper {
         ensures same_capacity { λ _. ⌜ capacity (now (self .exit)) ≡ capacity (now (self .entry)) ⌝ };
 
     // Joins the description with the marks and the ascending list of groups that are given.
-    fn join(
-        &mut self,
-        free: u16,
-        linear: u16,
-        groups: &[u16],
-        scratch: &mut [u8],
-    ) -> Result<(), KeeperFault>
+    fn join(&mut self, free: u16, linear: u16, groups: &[u16], scratch: &mut [u8]) -> Result<(), KeeperFault>
         ensures joins { λ r. ⌜ Joins Alike (capacity (now (self .entry))) free linear (now (groups .entry)) (length (now (scratch .entry))) (told (now (self .entry))) (told (now (self .exit))) r ⌝ }
         ensures same_capacity { λ _. ⌜ capacity (now (self .exit)) ≡ capacity (now (self .entry)) ⌝ };
 
@@ -61,4 +56,8 @@ pub trait Keeper {
     // Does one group hold both positions?
     fn share(&self, p: u8, q: u8) -> Result<bool, KeeperFault>
         ensures { λ r. ⌜ Answers (pairRefusal (told (now (self .entry))) p q) (Share (told (now (self .entry))) p q) r ⌝ };
+
+    // Puts the core at the start of a list.
+    fn write_out(&self, list: &mut [u16]) -> Result<WrittenOut, KeeperFault>
+        ensures { λ r. ⌜ Writes (told (now (self .entry))) (now (list .entry)) (now (list .exit)) r ⌝ };
 }

@@ -4,15 +4,17 @@ ghost use lib.ListN.{length};
 ghost use Rattle.domain.specs.Coverage.{Alike};
 ghost use Rattle.domain.specs.Masks.{In};
 ghost use Rattle.domain.specs.Told.{Share, Ground};
-ghost use Rattle.keeper.specs.Calls.{Opens, Binds, Joins, Forgets, Answers, Exactly, askRefusal, pairRefusal};
+ghost use Rattle.keeper.specs.Calls.{Opens, Binds, Joins, Forgets, Writes, Answers, Exactly, askRefusal, pairRefusal};
 ghost use Rattle.table_keeper.specs.Tells.{toldBy, nothing};
 use crate::TableKeeper;
+use coverage::listing::write_core;
 use domain::description::Description;
 use domain::refusal::Refusal;
 use domain::term::Term;
 use keeper::fault::KeeperFault;
 use keeper::fault::KeeperFaultFromRefusal;
 use keeper::keeper::Keeper;
+use keeper::write_out::WrittenOut;
 
 impl TableKeeper {
     // A keeper that is not opened yet.
@@ -56,13 +58,7 @@ pub impl Keeper for TableKeeper as TableKeeperKeeper {
         Ok(())
     }
 
-    fn join(
-        &mut self,
-        free: u16,
-        linear: u16,
-        groups: &[u16],
-        scratch: &mut [u8],
-    ) -> Result<(), KeeperFault>
+    fn join(&mut self, free: u16, linear: u16, groups: &[u16], scratch: &mut [u8]) -> Result<(), KeeperFault>
         ensures joins { λ r. ⌜ Joins Alike 4095 free linear (now (groups .entry)) (length (now (scratch .entry))) (toldBy (now (self .entry) .held)) (toldBy (now (self .exit) .held)) r ⌝ }
         ensures same_capacity { λ _. ⌜ _≡_ {A = ℕ} 4095 4095 ⌝ }
         ensures exactly { λ r. ⌜ Joins Exactly 4095 free linear (now (groups .entry)) (length (now (scratch .entry))) (toldBy (now (self .entry) .held)) (toldBy (now (self .exit) .held)) r ⌝ }
@@ -112,6 +108,20 @@ pub impl Keeper for TableKeeper as TableKeeperKeeper {
     fn share(&self, p: u8, q: u8) -> Result<bool, KeeperFault> {
         match &self.held {
             Some(held) => Ok(held.share(p, q)?),
+            None => Err(Refusal::Order.into()),
+        }
+    }
+
+    fn write_out(&self, list: &mut [u16]) -> Result<WrittenOut, KeeperFault> {
+        match &self.held {
+            Some(held) => {
+                let count = write_core(held.table(), held.positions(), list)?;
+                Ok(WrittenOut {
+                    count,
+                    free: held.free_mask(),
+                    linear: held.linear_mask(),
+                })
+            }
             None => Err(Refusal::Order.into()),
         }
     }
