@@ -1,3 +1,4 @@
 pub mod Sessions
 pub mod Reckoning
 pub mod Laws
+pub mod Comparing

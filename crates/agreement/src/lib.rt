@@ -1,4 +1,4 @@
-// What holds of whole runs, over keepers of any build: theorems on the promises of their calls.
-pub mod apart;
-pub mod least;
+// What holds of whole runs, over keepers of any build.
+pub mod compare;
 pub mod reckoning;
+pub mod write_out;

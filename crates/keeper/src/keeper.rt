@@ -32,7 +32,13 @@ pub trait Keeper {
         ensures same_capacity { λ _. ⌜ capacity (now (self .exit)) ≡ capacity (now (self .entry)) ⌝ };
 
     // Joins the description with the marks and the ascending list of groups that are given.
-    fn join(&mut self, free: u16, linear: u16, groups: &[u16], scratch: &mut [u8]) -> Result<(), KeeperFault>
+    fn join(
+        &mut self,
+        free: u16,
+        linear: u16,
+        groups: &[u16],
+        scratch: &mut [u8],
+    ) -> Result<(), KeeperFault>
         ensures joins { λ r. ⌜ Joins Alike (capacity (now (self .entry))) free linear (now (groups .entry)) (length (now (scratch .entry))) (told (now (self .entry))) (told (now (self .exit))) r ⌝ }
         ensures same_capacity { λ _. ⌜ capacity (now (self .exit)) ≡ capacity (now (self .entry)) ⌝ };
 

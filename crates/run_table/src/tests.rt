@@ -45,7 +45,7 @@ fn a_sheet_that_cannot_be_read(rt: LibcRuntime) -> Result<(), Fail> {
     // a kind that is none
     prints(
         heap,
-        b"\x04\x00\x03\x00\x00\x00\x00\x00",
+        b"\x04\x00\x07\x00\x00\x00\x00\x00",
         "refused 2 at 0 step 0 reader\n",
     ).note("a kind that is none")?;
     // a step where a term belongs

@@ -58,7 +58,13 @@ pub impl Keeper for TableKeeper as TableKeeperKeeper {
         Ok(())
     }
 
-    fn join(&mut self, free: u16, linear: u16, groups: &[u16], scratch: &mut [u8]) -> Result<(), KeeperFault>
+    fn join(
+        &mut self,
+        free: u16,
+        linear: u16,
+        groups: &[u16],
+        scratch: &mut [u8],
+    ) -> Result<(), KeeperFault>
         ensures joins { λ r. ⌜ Joins Alike 4095 free linear (now (groups .entry)) (length (now (scratch .entry))) (toldBy (now (self .entry) .held)) (toldBy (now (self .exit) .held)) r ⌝ }
         ensures same_capacity { λ _. ⌜ _≡_ {A = ℕ} 4095 4095 ⌝ }
         ensures exactly { λ r. ⌜ Joins Exactly 4095 free linear (now (groups .entry)) (length (now (scratch .entry))) (toldBy (now (self .entry) .held)) (toldBy (now (self .exit) .held)) r ⌝ }
