@@ -26,7 +26,7 @@ use Rattle.domain.specs.declared.marks.Marks.{Marks}
 use Rattle.domain.specs.declared.refusal.Refusal.{Refusal}
 use Rattle.domain.specs.declared.refusal.Refusal.the-variants.{Order, Count, Room}
 use Rattle.domain.proofs.Bits.{in-single, single-in}
-use Rattle.domain.proofs.Joining.{room-for}
+use Rattle.domain.proofs.Tables.{room-for}
 use Rattle.domain.proofs.Laws.{group-of, of-group}
 use Rattle.domain.proofs.Refusing.{passed}
 use Rattle.std.proofs.shelf.Tests.{ltb-false}
