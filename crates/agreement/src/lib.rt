@@ -1,4 +1,6 @@
 // What holds of whole runs, over keepers of any build.
+#![tactic(auto)]
+
 pub mod call;
 pub mod compare;
 pub mod reckoning;

@@ -1,4 +1,6 @@
 // What the programs share: a sheet from standard input, run on a keeper, printed line by line.
+#![tactic(auto)]
+
 ghost use Rattle.std.specs.Prelude.{◌≡◌, IfOk, string_bytes, OnOk};
 ghost use Rattle.console.specs.Printing.{Prints, Served};
 

@@ -1,4 +1,6 @@
 // The theory of coverage: what a set of groups covers, its core, and how the steps act on both.
+#![tactic(auto)]
+
 pub mod binding;
 pub mod cores;
 pub mod existence;

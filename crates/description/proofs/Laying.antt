@@ -3,7 +3,7 @@ use Rattle.std.proofs.Common.{◌≡◌, ℕ, ◌/◌, ◌%◌, ◌^◌, ◌<◌
 use mathlib.Core.Path.{fun_ext}
 use Rattle.std.proofs.lemmas.List.{get_or-take, get_or_append_left}
 use Rattle.domain.specs.Tables.{holds_bit, in_range, told_of}
-use Rattle.domain.proofs.Laws.{in_range}
+use Rattle.domain.proofs.Laws.{in_range_lem}
 use Rattle.domain.proofs.Tables.{room_for}
 
 same_bit : (s t : List ℕ) (g : ℕ) → get_or s (g / 8) 0 ≡ get_or t (g / 8) 0 → holds_bit s g ≡ holds_bit t g
@@ -16,7 +16,7 @@ module _ (n f l : ℕ) (s t : List ℕ) (few : n < 13) (same : (i : ℕ) → i <
   same_group g = go (in_range n g) refl
     where
       go : (b : Bool) → in_range n g ≡ b → cond b (holds_bit s g) false ≡ cond b (holds_bit t g) false
-      go true e = same_bit s t g (same (g / 8) (room_for n g 512 few (in_range n g e).1 (omega arith)))
+      go true e = same_bit s t g (same (g / 8) (room_for n g 512 few (in_range_lem n g e).1 (omega arith)))
       go false e = refl
 
   told_front : told_of n s f l ≡ told_of n t f l

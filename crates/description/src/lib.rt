@@ -1,4 +1,6 @@
 // A description: its number of positions, its groups as a bit table, its free and its linear mask.
+#![tactic(auto)]
+
 ghost use Rattle.std.specs.Prelude.{◌^◌, ◌<◌};
 ghost use Rattle.description.specs.Lawful.{Counted, FreeLinear, GroundLinear, FreeHeld};
 

@@ -1,4 +1,6 @@
 // What is said of record positions: masks, groups in a bit table, marks, terms, and the table of refusals.
+#![tactic(auto)]
+
 pub mod case;
 pub mod marks;
 pub mod mask;

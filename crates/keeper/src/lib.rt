@@ -1,4 +1,6 @@
 // Keepers: what holds a description and answers questions about it.
+#![tactic(auto)]
+
 pub mod fault;
 pub mod keeper;
 pub mod write_out;

@@ -1,4 +1,6 @@
 // The keeper that tells the core alone, in a list that its owner lends.
+#![tactic(auto)]
+
 ghost use Rattle.list_keeper.specs.Lawful.{Few, Inside, Rising, OwnCore, Cleared};
 
 pub mod calls;

@@ -1,4 +1,6 @@
 // Rolls: one ordered list for every kind of entry that has a key.
+#![tactic(auto)]
+
 pub mod added;
 mod insertion;
 pub mod key;

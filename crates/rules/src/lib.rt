@@ -1,4 +1,6 @@
 // The rules of bind, join and forget, worked in place on a lent table of groups.
+#![tactic(auto)]
+
 pub mod lent;
 mod mask;
 mod reach;

@@ -1,4 +1,6 @@
 // Runs a sheet from standard input on the list keeper.
+#![tactic(auto)]
+
 use console::run_input;
 use list_keeper::ListKeeper;
 

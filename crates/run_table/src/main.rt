@@ -1,4 +1,6 @@
 // Runs a sheet from standard input on the table keeper.
+#![tactic(auto)]
+
 use console::run_input;
 use table_keeper::TableKeeper;
 

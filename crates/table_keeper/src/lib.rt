@@ -1,4 +1,6 @@
 // The keeper that holds every group that the rules give, in a table of bits.
+#![tactic(auto)]
+
 pub mod calls;
 #[cfg(test)]
 mod tests;

@@ -1,4 +1,6 @@
 // Everything that a program prints of a run.
+#![tactic(auto)]
+
 ghost use Rattle.std.specs.Prelude.{◌≡◌, take, IfOk, string_bytes};
 ghost use Rattle.transcript.specs.Transcripts.{transcript_of, lines_of};
 

@@ -5,7 +5,7 @@ use Rattle.domain.proofs.table.put.Goals as goal
 pub returns-then-place-table : goal.returns-then-place-table
 returns-then-place-table c =
     record {
-      at = λ h. put_at _ _ _ _ h c.with-bit.ensures.at;
-      others = λ h ne. put_others _ _ _ c.if-place-table.true c.with-bit.ensures.others h ne;
+      at = λ h. put_at _ _ _ _ h c.with_bit.ensures.at;
+      others = λ h ne. put_others _ _ _ c.if-place-table.true c.with_bit.ensures.others h ne;
       past = λ h. absurd (omega arith);
     }
