@@ -15,5 +15,5 @@ returns g c =
             ran = c.run-outcome.ensures.ran;
             printed = e;
           }) c.transcript.ensures;
-      same-capacity = c.run-outcome.ensures.same-capacity;
+      same_capacity = c.run-outcome.ensures.same_capacity;
     }

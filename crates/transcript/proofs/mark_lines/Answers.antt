@@ -6,9 +6,9 @@ use Rattle.transcript.proofs.mark_lines.Goals as goal
 
 pub loop-i-preserved : goal.loop-i-preserved
 loop-i-preserved c =
-    let line = c.in-ok-line.ensures in
-    let bytes = c.in-ok-push-str.ensures.bytes in
-    let text = c.as-str.ensures.value in
+    let line = c.in_ok-line.ensures in
+    let bytes = c.in_ok-push_str.ensures.bytes in
+    let text = c.as_str.ensures.value in
     let before = c.loop-i.invariant.0 in
     let more = lines_more c.args.marks.now c.loop-i.i (record { place = 0; kind = Open; answer = false }) c.loop-i-test.true in
     (cc (line, bytes, text, before, more), (let left = c.if-i-count.false in omega arith))

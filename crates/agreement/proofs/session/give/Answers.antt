@@ -15,5 +15,5 @@ returns-in-WriteOut g c =
         same = refl;
       };
       rest = rest_written _ c.args.list.now c.write_out.new.list c.write_out.result c.written.result c.write_out.ensures (c.written.ensures c.write_out.new.list);
-      same-capacity = refl;
+      same_capacity = refl;
     }

@@ -10,7 +10,7 @@ loop-i-preserved g c = (
   held_more _ _ _ c.args.calls.now c.loop-i.i _ _ _ _ c.loop-i.list c.give.new.list _ c.loop-i.answers _ c.give.result _ _
       c.loop-i.invariant.1 c.loop-i.auto.scratch c.loop-i.auto.list (search rules) (search rules)
       c.loop-i.invariant.0 c.give.ensures.called c.give.ensures.rest,
-  c.give.ensures.same-capacity ∙ c.loop-i.invariant.1,
+  c.give.ensures.same_capacity ∙ c.loop-i.invariant.1,
 )
 
 pub returns : goal.returns
@@ -20,6 +20,6 @@ returns g c =
     record {
       number = c.min-number.ensures;
       session = held;
-      under-the-laws = held_lawful held;
-      same-capacity = c.loop-i.invariant.1;
+      under_the_laws = held_lawful held;
+      same_capacity = c.loop-i.invariant.1;
     }

@@ -3,7 +3,7 @@ use Rattle.std.proofs.lemmas.Bool.{ne_eqb, le-ltb}
 use Rattle.coverage.proofs.Verdicts.{decided_no}
 use Rattle.coverage.proofs.Counting.{count_start, count_skip, count_one, count_end, count_as, core_range, shifted_end}
 use Rattle.coverage.proofs.cores.core_count.Goals as goal
-use Rattle.coverage.proofs.cores.core_count.Goals.{then-is-core, else-is-core}
+use Rattle.coverage.proofs.cores.core_count.Goals.{then-is_core, else-is_core}
 
 pub loop-g-init : goal.loop-g-init
 loop-g-init c =
@@ -11,14 +11,14 @@ loop-g-init c =
 
 pub loop-g-preserved : goal.loop-g-preserved
 loop-g-preserved c =
-    elim c.if-is-core.branch [
-      | then-is-core w ↦ (
+    elim c.if-is_core.branch [
+      | then-is_core w ↦ (
         omega (arith, w.count-is, c.loop-g.invariant.0),
-        rw w.count-is (count_one ((c.is_core.ensures 0 0).0 w.if-is-core.true) c.loop-g.invariant.1),
+        rw w.count-is (count_one ((c.is_core.ensures 0 0).0 w.if-is_core.true) c.loop-g.invariant.1),
       )
-      | else-is-core w ↦ (
+      | else-is_core w ↦ (
         omega (arith, w.count-is, c.loop-g.invariant.0),
-        rw w.count-is (count_skip (decided_no (c.is_core.ensures 0 0) w.if-is-core.false) c.loop-g.invariant.1),
+        rw w.count-is (count_skip (decided_no (c.is_core.ensures 0 0) w.if-is_core.false) c.loop-g.invariant.1),
       )
     ]
 

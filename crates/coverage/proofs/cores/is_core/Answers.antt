@@ -3,9 +3,9 @@ use Rattle.coverage.proofs.Verdicts.{decides_yes, decides_no, decided_no}
 use Rattle.coverage.proofs.Pairs.{closed_start, closed_at_start, closed_at_more, closed_more, closed_core, open_core, core_as}
 use Rattle.coverage.proofs.cores.is_core.Goals as goal
 
-pub returns-then-not-is-group : goal.returns-then-not-is-group
-returns-then-not-is-group c =
-    λ f l. decides_no (λ k. decided_no (c.is-group.ensures f l) c.if-not-is-group.true k.told)
+pub returns-then-not-is_group : goal.returns-then-not-is_group
+returns-then-not-is_group c =
+    λ f l. decides_no (λ k. decided_no (c.is_group.ensures f l) c.if-not-is_group.true k.told)
 
 pub pairs-init : goal.pairs-init
 pairs-init c = (refl, closed_start)
@@ -15,7 +15,7 @@ loop-q-init c = (c.pairs.invariant.0, closed_at_start)
 
 pub loop-q-preserved : goal.loop-q-preserved
 loop-q-preserved c =
-    (c.loop-q.invariant.0, closed_at_more (decided_no c.is-open.ensures c.if-is-open.false) c.loop-q.invariant.1)
+    (c.loop-q.invariant.0, closed_at_more (decided_no c.is_open.ensures c.if-is_open.false) c.loop-q.invariant.1)
 
 pub pairs-preserved : goal.pairs-preserved
 pairs-preserved c =
@@ -29,9 +29,9 @@ returns-after-pairs c =
     closed_core c.ranges.g.fits c.pairs-test.false c.pairs.invariant.1
     (core_as (λ g t. record { told = t.told }) (λ g t. record { told = t.told }) k)))
 
-pub returns-then-is-open : goal.returns-then-is-open
-returns-then-is-open c =
+pub returns-then-is_open : goal.returns-then-is_open
+returns-then-is_open c =
     λ f l.
     decides_yes
     (core_as (λ g t. record { told = t.told }) (λ g t. record { told = t.told })
-    (open_core ((c.is-group.ensures 0 0).0 c.if-not-is-group.false) (c.is-open.ensures.0 c.if-is-open.true)))
+    (open_core ((c.is_group.ensures 0 0).0 c.if-not-is_group.false) (c.is_open.ensures.0 c.if-is_open.true)))

@@ -5,7 +5,7 @@ use Rattle.coverage.proofs.Verdicts.{decided_no}
 use Rattle.coverage.proofs.Counting.{core_range, shifted_end}
 use Rattle.coverage.proofs.ListedCores.{list_start, list_skip, list_one, list_room, list_long, list_below, list_end, fills_over}
 use Rattle.coverage.proofs.listing.fill_core.Goals as goal
-use Rattle.coverage.proofs.listing.fill_core.Goals.{then-is-core, else-is-core}
+use Rattle.coverage.proofs.listing.fill_core.Goals.{then-is_core, else-is_core}
 
 pub loop-g-init : goal.loop-g-init
 loop-g-init c = (
@@ -17,17 +17,17 @@ pub loop-g-preserved : goal.loop-g-preserved
 loop-g-preserved c =
     let low : 0 < c.loop-g.g = (let k = c.loop-g.auto.g in omega arith) in
     let inv = c.loop-g.invariant.0 in
-    elim c.if-is-core.branch [
-      | then-is-core w ↦
-          let core = (c.is_core.ensures 0 0).0 w.if-is-core.true in
+    elim c.if-is_core.branch [
+      | then-is_core w ↦
+          let core = (c.is_core.ensures 0 0).0 w.if-is_core.true in
           let room : c.loop-g.roll.used < length (slots c.over-roll.result) =
           omega (arith, list_room low core inv c.requires.1, ap length c.over-roll.ensures.same) in
           let long : length (slots c.loop-g.roll) ≡ length (slots c.over-roll.result) = list_long (omega arith) inv in
           let added = w.add.ensures.appended (omega (arith, long, room)) (list_below inv) in
           let used = w.add.ensures.counted ∙ ap (used_after c.loop-g.roll.used) added.0 in
           (rw (w.roll-is, used, added.1) (list_one low room core inv), rw w.roll-is (w.add.ensures.lent ∙ c.loop-g.invariant.1))
-      | else-is-core w ↦ (
-        rw w.roll-is (list_skip (decided_no (c.is_core.ensures 0 0) w.if-is-core.false) inv),
+      | else-is_core w ↦ (
+        rw w.roll-is (list_skip (decided_no (c.is_core.ensures 0 0) w.if-is_core.false) inv),
         rw w.roll-is c.loop-g.invariant.1,
       )
     ]

@@ -6,17 +6,17 @@ use Rattle.coverage.proofs.listing.write_core.Goals as goal
 use Rattle.domain.specs.Tables.{told_of}
 use Rattle.domain.specs.Told.{Group}
 
-pub fill-core-requires : goal.fill-core-requires
-fill-core-requires c =
-    let given = counted_few c.args.n c.in-ok-count.field-0 (λ k. (f l : ℕ) → CoreCount (Group (told_of c.args.n c.args.table.now f l)) k) c.in-ok-count.ensures in
+pub fill_core-requires : goal.fill_core-requires
+fill_core-requires c =
+    let given = counted_few c.args.n c.in_ok-count.field-0 (λ k. (f l : ℕ) → CoreCount (Group (told_of c.args.n c.args.table.now f l)) k) c.in_ok-count.ensures in
     (given.1, count_fits (count_as (λ g t. record { told = t.told }) (λ g t. record { told = t.told }) (given.2 0 0)) c.if-list-count.false)
 
 pub returns-then-list-count : goal.returns-then-list-count
 returns-then-list-count c = λ f l.
-    let given = counted_few c.args.n c.in-ok-count.field-0 (λ k. (f l : ℕ) → CoreCount (Group (told_of c.args.n c.args.table.now f l)) k) c.in-ok-count.ensures in
-    rw given.0 (refl, refl, λ fits. let most : c.in-ok-count.field-0 ≤ length c.args.list.now = fits_count (given.2 f l) fits in omega arith)
+    let given = counted_few c.args.n c.in_ok-count.field-0 (λ k. (f l : ℕ) → CoreCount (Group (told_of c.args.n c.args.table.now f l)) k) c.in_ok-count.ensures in
+    rw given.0 (refl, refl, λ fits. let most : c.in_ok-count.field-0 ≤ length c.args.list.now = fits_count (given.2 f l) fits in omega arith)
 
 pub returns : goal.returns
 returns c = λ f l.
-    let given = counted_few c.args.n c.in-ok-count.field-0 (λ k. (f l : ℕ) → CoreCount (Group (told_of c.args.n c.args.table.now f l)) k) c.in-ok-count.ensures in
-    rw given.0 (fills_as (λ g t. record { told = t.told }) (λ g t. record { told = t.told }) c.fill-core.ensures)
+    let given = counted_few c.args.n c.in_ok-count.field-0 (λ k. (f l : ℕ) → CoreCount (Group (told_of c.args.n c.args.table.now f l)) k) c.in_ok-count.ensures in
+    rw given.0 (fills_as (λ g t. record { told = t.told }) (λ g t. record { told = t.told }) c.fill_core.ensures)

@@ -10,11 +10,11 @@ loop-s-smaller c = next_lt c.args.window c.loop-s.s c.loop-s-test.true
 
 pub loop-s-preserved : goal.loop-s-preserved
 loop-s-preserved c =
-    walk_on c.loop-s-test.true (decided_no c.is-holding.ensures c.if-is-holding.false) c.loop-s.invariant
+    walk_on c.loop-s-test.true (decided_no c.is_holding.ensures c.if-is_holding.false) c.loop-s.invariant
 
-pub returns-then-is-holding : goal.returns-then-is-holding
-returns-then-is-holding c =
-    decides_yes (walk_found (c.is-holding.ensures.0 c.if-is-holding.true) c.loop-s.invariant)
+pub returns-then-is_holding : goal.returns-then-is_holding
+returns-then-is_holding c =
+    decides_yes (walk_found (c.is_holding.ensures.0 c.if-is_holding.true) c.loop-s.invariant)
 
 pub returns : goal.returns
 returns c = decides_no (walk_none c.loop-s-test.false c.loop-s.invariant)

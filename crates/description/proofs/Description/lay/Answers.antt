@@ -9,7 +9,7 @@ returns-then-scratch-ge512 c =
     record {
       positions = c.marks-marks.ensures.positions;
       tells = λ room.
-          told_laid m.positions m.free m.linear c.copy-from-slice.new.self _
-          (omega (arith, c.marks-marks.ensures.positions, c.args.self.now.counted.1)) (omega (arith, c.copy-from-slice.ensures.len))
-          ∙ told_same m _ c.args.self.now c.marks-marks.ensures.positions c.marks-marks.ensures.free c.marks-marks.ensures.linear c.copy-from-slice.ensures.after;
+          told_laid m.positions m.free m.linear c.copy_from_slice.new.self _
+          (omega (arith, c.marks-marks.ensures.positions, c.args.self.now.counted.1)) (omega (arith, c.copy_from_slice.ensures.len))
+          ∙ told_same m _ c.args.self.now c.marks-marks.ensures.positions c.marks-marks.ensures.free c.marks-marks.ensures.linear c.copy_from_slice.ensures.after;
     }

@@ -9,16 +9,16 @@ pub returns-then-positions-eq0 : goal.returns-then-positions-eq0
 returns-then-positions-eq0 c =
     let h : (eqb c.args.positions 0 || ltb 12 c.args.positions) ≡ true = grind (arith, nat_tests) in rw h
 
-pub put-singles-requires : goal.put-singles-requires
-put-singles-requires c = (omega arith, (omega arith, λ g. no_bits 512 g))
+pub put_singles-requires : goal.put_singles-requires
+put_singles-requires c = (omega arith, (omega arith, λ g. no_bits 512 g))
 
 pub invariant-of-result : goal.invariant-of-result
 invariant-of-result c =
-    carried c.args.positions c.put-singles.new.table _ _
+    carried c.args.positions c.put_singles.new.table _ _
     (new_lawful c.args.positions _ (omega arith) (omega arith)
-    (new_of_lem c.args.positions c.put-singles.new.table c.put-singles.ensures _ (ap (λ (k : ℕ). k - 1) (one_shl c.args.positions 16 (omega arith)))))
+    (new_of_lem c.args.positions c.put_singles.new.table c.put_singles.ensures _ (ap (λ (k : ℕ). k - 1) (one_shl c.args.positions 16 (omega arith)))))
 
 pub returns : goal.returns
 returns c =
     let h : (eqb c.args.positions 0 || ltb 12 c.args.positions) ≡ false = grind (arith, nat_tests) in
-    rw h (new_of_lem c.args.positions c.put-singles.new.table c.put-singles.ensures _ (ap (λ (k : ℕ). k - 1) (one_shl c.args.positions 16 (omega arith))))
+    rw h (new_of_lem c.args.positions c.put_singles.new.table c.put_singles.ensures _ (ap (λ (k : ℕ). k - 1) (one_shl c.args.positions 16 (omega arith))))

@@ -11,8 +11,8 @@ use Rattle.list_keeper.proofs.Changes.{rule_stored, rule_refused}
 use Rattle.list_keeper.specs.Tells.{told_by}
 use Rattle.list_keeper.proofs.change.join_list.Goals as goal
 
-pub returns-in-err-marks : goal.returns-in-err-marks
-returns-in-err-marks c =
+pub returns-in_err-marks : goal.returns-in_err-marks
+returns-in_err-marks c =
     let p = err_from_is_err_and c.from-residual.result c.from-residual.ensures.1 in
     let head = c.args.head.now in
     let list = c.args.list.now in
@@ -22,7 +22,7 @@ returns-in-err-marks c =
       kept = c.requires;
       untouched = λ _. refl;
       joins = rule_refused (λ d e. Joined d c.args.free c.args.linear c.args.groups.now e) (λ n k. first_of (join_tests n c.args.free c.args.linear c.args.groups.now k)) c.load-before.result head list c.load-before.new.table (length c.args.scratch.now)
-          some c.requires.few c.load-before.ensures.positions long c.in-err-marks.field-0.0 c.join-table.new.table c.in-err-marks.ensures.gives
+          some c.requires.few c.load-before.ensures.positions long c.in_err-marks.field-0.0 c.join_table.new.table c.in_err-marks.ensures.gives
           (length list) c.from-residual.result (p.1 ∙ ap (λ (x : KeeperFault). Err x) p.2);
     }
 
@@ -35,11 +35,11 @@ returns c =
     let long : length c.load-before.new.table ≡ len = omega arith in
     let made = rule_made (λ d e. Joined d c.args.free c.args.linear c.args.groups.now e) (λ n k. first_of (join_tests n c.args.free c.args.linear c.args.groups.now k)) c.load-before.result (told_by head list) c.load-before.new.table len
     some c.requires.few c.load-before.ensures.positions long (λ h. (join_allowed head.positions c.args.free c.args.linear c.args.groups.now len h).1)
-    c.load-before.ensures.told c.in-ok-marks.marks c.join-table.new.table c.in-ok-marks.ensures.gives in
+    c.load-before.ensures.told c.in_ok-marks.marks c.join_table.new.table c.in_ok-marks.ensures.gives in
     record {
       kept = c.store.ensures.kept;
       untouched = c.store.ensures.untouched;
       joins = rule_stored (λ d e. Joined d c.args.free c.args.linear c.args.groups.now e) (λ n k. first_of (join_tests n c.args.free c.args.linear c.args.groups.now k)) c.load-before.result head list c.load-before.new.table len
-          some c.requires.few c.load-before.ensures.positions long made.0 (told_with c.in-ok-marks.marks c.join-table.new.table) made.1
+          some c.requires.few c.load-before.ensures.positions long made.0 (told_with c.in_ok-marks.marks c.join_table.new.table) made.1
           (length list) (told_by c.store.new.head c.store.new.list) c.store.result c.store.ensures.stores;
     }

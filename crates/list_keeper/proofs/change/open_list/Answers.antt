@@ -16,7 +16,7 @@ returns c =
       kept = c.store.ensures.kept;
       untouched = c.store.ensures.untouched;
       opens = opens_stored n (length c.args.scratch.now) _
-          (new_of_lem n c.put-singles.new.table c.put-singles.ensures _ (ap (λ (k : ℕ). k - 1) (shifted_end n (omega arith))))
+          (new_of_lem n c.put_singles.new.table c.put_singles.ensures _ (ap (λ (k : ℕ). k - 1) (shifted_end n (omega arith))))
           some few room (length c.args.list.now) (told_by c.args.head.now c.args.list.now)
           (told_by c.store.new.head c.store.new.list) none c.store.result c.store.ensures.stores;
     }

@@ -8,12 +8,12 @@ pub returns : goal.returns
 returns c =
     let head = c.args.head in
     let list = c.args.list.now in
-    let table = c.load-table.new.table in
+    let table = c.load_table.new.table in
     let whole : head.count - 0 ≡ head.count = omega arith in
     let same : length table ≡ length c.args.table.now = omega arith in
     record {
       positions = refl;
       told = λ room.
           loaded_told head list table c.requires (omega arith)
-          (λ g h. subst (λ (n : ℕ). Decides (holds_bit table g) (Listed g (take n list))) whole (c.load-table.ensures g (omega arith)));
+          (λ g h. subst (λ (n : ℕ). Decides (holds_bit table g) (Listed g (take n list))) whole (c.load_table.ensures g (omega arith)));
     }

@@ -7,7 +7,7 @@ use Rattle.list_keeper.proofs.store.store.Goals as goal
 pub returns-in-Err : goal.returns-in-Err
 returns-in-Err c =
     let m = c.args.marks in
-    let r = refused m c.args.table.now c.args.list.now c.write-core.new.list c.in-Err.field-0 c.requires.some c.requires.few
+    let r = refused m c.args.table.now c.args.list.now c.write_core.new.list c.in-Err.field-0 c.requires.some c.requires.few
     (c.in-Err.ensures m.free m.linear) in
     record {
       kept = subst (λ (l : List ℕ). Kept c.args.head.now l) (sym r.1) c.requires.kept;
@@ -18,12 +18,12 @@ returns-in-Err c =
 pub returns : goal.returns
 returns c =
     let m = c.args.marks in
-    let w = wrote m c.args.table.now c.args.list.now c.write-core.new.list c.in-Ok.count c.requires.some c.requires.few
+    let w = wrote m c.args.table.now c.args.list.now c.write_core.new.list c.in-Ok.count c.requires.some c.requires.few
     (c.in-Ok.ensures m.free m.linear) in
-    let same : length c.write-core.new.list ≡ length c.args.list.now = omega arith in
+    let same : length c.write_core.new.list ≡ length c.args.list.now = omega arith in
     let long : length c.clear.new.list ≡ length c.args.list.now = omega arith in
     record {
-      kept = stored_kept m c.args.table.now c.args.list.now c.write-core.new.list c.clear.new.list c.in-Ok.count c.requires.some c.requires.few w same long c.clear.ensures.front c.clear.ensures.zero;
+      kept = stored_kept m c.args.table.now c.args.list.now c.write_core.new.list c.clear.new.list c.in-Ok.count c.requires.some c.requires.few w same long c.clear.ensures.front c.clear.ensures.zero;
       untouched = λ e. absurd (let some = c.requires.some in omega arith);
-      stores = stored m c.args.table.now c.args.list.now c.write-core.new.list c.clear.new.list c.in-Ok.count c.requires.some c.requires.few w same long c.clear.ensures.front c.clear.ensures.zero;
+      stores = stored m c.args.table.now c.args.list.now c.write_core.new.list c.clear.new.list c.in-Ok.count c.requires.some c.requires.few w same long c.clear.ensures.front c.clear.ensures.zero;
     }

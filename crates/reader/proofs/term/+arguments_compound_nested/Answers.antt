@@ -6,24 +6,24 @@ use Rattle.reader.specs.Trees.{tree_of}
 use Rattle.reader.proofs.Arguments.{from_end, next_from, stop_record, stop_tree, too_deep, deeper}
 use Rattle.reader.proofs.term.+arguments_compound_nested.Goals as goal
 
-pub arguments-returns-in-err-inner : goal.arguments-returns-in-err-inner
-arguments-returns-in-err-inner t c =
+pub arguments-returns-in_err-inner : goal.arguments-returns-in_err-inner
+arguments-returns-in_err-inner t c =
     let p = err_from_is_err_and c.from-residual.result c.from-residual.ensures.1 in
     rw (p.1, p.2)
-    (stop_record _ _ _ _ _ _ _ c.loop-at-test.true c.in-err-inner.ensures.value c.loop-at.invariant.1)
+    (stop_record _ _ _ _ _ _ _ c.loop-at-test.true c.in_err-inner.ensures.value c.loop-at.invariant.1)
 
-pub arguments-returns-in-err-nested : goal.arguments-returns-in-err-nested
-arguments-returns-in-err-nested t c =
-    let p = err_from_is_err_and c.from-residual-in-err-nested.result c.from-residual-in-err-nested.ensures.1 in
+pub arguments-returns-in_err-nested : goal.arguments-returns-in_err-nested
+arguments-returns-in_err-nested t c =
+    let p = err_from_is_err_and c.from-residual-in_err-nested.result c.from-residual-in_err-nested.ensures.1 in
     rw (p.1, p.2)
-    (stop_tree _ (tree_of c.args.sheet.now c.args.depth) _ _ _ _ c.in-ok-inner.inner c.loop-at-test.true c.in-ok-inner.ensures.value _ c.in-err-nested.ensures c.loop-at.invariant.1)
+    (stop_tree _ (tree_of c.args.sheet.now c.args.depth) _ _ _ _ c.in_ok-inner.inner c.loop-at-test.true c.in_ok-inner.ensures.value _ c.in_err-nested.ensures c.loop-at.invariant.1)
 
 pub arguments-loop-at-preserved : goal.arguments-loop-at-preserved
 arguments-loop-at-preserved t c =
-    let within = c.in-ok-inner.ensures.within in (
+    let within = c.in_ok-inner.ensures.within in (
       within.inside,
       rw c.join-all.ensures
-          (next_from _ (tree_of c.args.sheet.now c.args.depth) _ _ _ _ c.in-ok-inner.inner c.loop-at-test.true c.in-ok-inner.ensures.value _ c.in-ok-nested.ensures (omega arith) c.loop-at.invariant.1),
+          (next_from _ (tree_of c.args.sheet.now c.args.depth) _ _ _ _ c.in_ok-inner.inner c.loop-at-test.true c.in_ok-inner.ensures.value _ c.in_ok-nested.ensures (omega arith) c.loop-at.invariant.1),
     )
 
 pub arguments-returns : goal.arguments-returns

@@ -5,9 +5,9 @@ use Rattle.roll.specs.Rolls.{Holds}
 use Rattle.roll.proofs.Rolls.{holds_at, holds_later, holds_none}
 use Rattle.roll.proofs.search.holds_key.Goals as goal
 
-pub returns-then-has-key : goal.returns-then-has-key
-returns-then-has-key g c = (
-  (λ _. holds_at _ _ _ _ _ (omega arith) c.entry-item.is (c.has-key.ensures.0 c.if-has-key.true)),
+pub returns-then-has_key : goal.returns-then-has_key
+returns-then-has_key g c = (
+  (λ _. holds_at _ _ _ _ _ (omega arith) c.entry-item.is (c.has_key.ensures.0 c.if-has_key.true)),
   λ _. refl,
 )
 
@@ -15,7 +15,7 @@ pub loop-entry-preserved : goal.loop-entry-preserved
 loop-entry-preserved g c =
     λ h. holds_later _ _ c.args.entries.now c.loop-entry.entry-index c.entry-item.result (omega arith)
     c.entry-item.is
-    (λ e. both_ways _ c.if-has-key.false (c.has-key.ensures.1 e))
+    (λ e. both_ways _ c.if-has_key.false (c.has_key.ensures.1 e))
     (c.loop-entry.invariant h)
 
 pub returns : goal.returns

@@ -12,7 +12,7 @@ loop-cursor-preserved g c = (
   runs_again _ _ _ _ _ _ c.loop-cursor.cursor _ _ (slots c.loop-cursor.marks) _ c.loop-cursor.invariant.3 c.loop-cursor-test.true
       c.in-Ok.next c.in-Ok.ensures.onward.0 c.in-Ok.ensures.onward.1 c.loop-cursor.invariant.0
       _ _ _ c.loop-cursor.invariant.1 c.loop-cursor.auto.scratch c.loop-cursor.auto.groups c.in-Ok.ensures.turns,
-  c.in-Ok.ensures.same-capacity ∙ c.loop-cursor.invariant.1,
+  c.in-Ok.ensures.same_capacity ∙ c.loop-cursor.invariant.1,
   c.in-Ok.ensures.marked,
   c.in-Ok.ensures.long ∙ c.loop-cursor.invariant.3,
   c.in-Ok.ensures.lent ∙ c.loop-cursor.invariant.4,
@@ -26,7 +26,7 @@ returns-in-Err g c =
           c.in-Err.fault c.loop-cursor.invariant.0
           _ _ _ c.loop-cursor.invariant.1 c.loop-cursor.auto.scratch c.loop-cursor.auto.groups c.in-Err.ensures.turns);
       lent = c.in-Err.ensures.lent ∙ c.loop-cursor.invariant.4;
-      same-capacity = c.in-Err.ensures.same-capacity ∙ c.loop-cursor.invariant.1;
+      same_capacity = c.in-Err.ensures.same_capacity ∙ c.loop-cursor.invariant.1;
     }
 
 pub returns : goal.returns
@@ -35,5 +35,5 @@ returns g c =
       ran = rw c.finish.ensures
           (runs_end _ _ _ _ _ _ c.loop-cursor.cursor _ (slots c.loop-cursor.marks) c.loop-cursor.invariant.0 c.loop-cursor-test.false);
       lent = c.loop-cursor.invariant.4;
-      same-capacity = c.loop-cursor.invariant.1;
+      same_capacity = c.loop-cursor.invariant.1;
     }

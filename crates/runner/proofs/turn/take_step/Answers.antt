@@ -7,20 +7,20 @@ use Rattle.runner.proofs.Runs.{turns_go, turns_stop}
 use Rattle.runner.proofs.turn.take_step.Goals as goal
 use Rattle.reader.specs.Following.{next_at}
 
-pub returns-in-err-answer : goal.returns-in-err-answer
-returns-in-err-answer g c =
-    let p = err_from_is_err_and c.from-residual-in-err-answer.result c.from-residual-in-err-answer.ensures.1 in
+pub returns-in_err-answer : goal.returns-in_err-answer
+returns-in_err-answer g c =
+    let p = err_from_is_err_and c.from-residual-in_err-answer.result c.from-residual-in_err-answer.ensures.1 in
     let room : c.args.cursor.step < length (slots c.args.marks.now) = omega (arith, c.len.ensures, c.capacity.ensures, c.requires.1.1.counted) in
     record {
-      turns = turns_stop _ _ _ _ c.args.cursor c.in-ok-next.next (next_at c.args.sheet.now c.args.cursor.state c.args.cursor.at)
-          c.in-err-answer.field-0.0 (g.K.Keeper.told c.args.keeper.now) (g.K.Keeper.told c.serve.new.keeper) (slots c.args.marks.now) c.from-residual-in-err-answer.result p.0 c.in-ok-next.ensures.value
+      turns = turns_stop _ _ _ _ c.args.cursor c.in_ok-next.next (next_at c.args.sheet.now c.args.cursor.state c.args.cursor.at)
+          c.in_err-answer.field-0.0 (g.K.Keeper.told c.args.keeper.now) (g.K.Keeper.told c.serve.new.keeper) (slots c.args.marks.now) c.from-residual-in_err-answer.result p.0 c.in_ok-next.ensures.value
           room (let q = c.groups.ensures in let l = c.if-groups.false in omega arith)
-          c.in-err-answer.ensures.serves p.1 p.2;
+          c.in_err-answer.ensures.serves p.1 p.2;
       onward = rw p.1 tt;
       marked = rw p.1 tt;
       long = refl;
       lent = refl;
-      same-capacity = c.serve.ensures.same-capacity;
+      same_capacity = c.serve.ensures.same_capacity;
     }
 
 pub returns : goal.returns
@@ -29,15 +29,15 @@ returns g c =
     let room : c.args.marks.now.used < length (slots c.args.marks.now) = omega (arith, c.len.ensures, c.capacity.ensures) in
     let added = c.add.ensures.appended room w.before in
     let used : c.add.new.self.used ≡ c.args.marks.now.used + 1 = c.add.ensures.counted ∙ ap (used_after c.args.marks.now.used) added.0 in
-    let past = c.in-ok-next.ensures.within in
+    let past = c.in_ok-next.ensures.within in
     record {
-      turns = turns_go _ _ _ _ c.args.cursor c.in-ok-next.next (next_at c.args.sheet.now c.args.cursor.state c.args.cursor.at)
-          c.in-ok-answer.answer _ _ (slots c.args.marks.now) (slots c.add.new.self) c.args.marks.now.used c.kind.result c.in-ok-next.ensures.value
+      turns = turns_go _ _ _ _ c.args.cursor c.in_ok-next.next (next_at c.args.sheet.now c.args.cursor.state c.args.cursor.at)
+          c.in_ok-answer.answer _ _ (slots c.args.marks.now) (slots c.add.new.self) c.args.marks.now.used c.kind.result c.in_ok-next.ensures.value
           room (let q = c.groups.ensures in let l = c.if-groups.false in omega arith)
-          c.in-ok-answer.ensures.serves w.counted c.kind.ensures added.1;
+          c.in_ok-answer.ensures.serves w.counted c.kind.ensures added.1;
       onward = (past.0, past.1, refl);
       marked = marked_more c.args.cursor _ c.args.marks.now c.add.new.self _ w room refl past.0 refl used added.1;
       long = ap length added.1 ∙ length-set (slots c.args.marks.now) c.args.marks.now.used _;
       lent = c.add.ensures.lent;
-      same-capacity = c.serve.ensures.same-capacity;
+      same_capacity = c.serve.ensures.same_capacity;
     }

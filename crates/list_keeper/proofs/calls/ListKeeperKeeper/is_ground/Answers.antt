@@ -12,5 +12,5 @@ returns c =
     let whole : head.count - 0 ≡ head.count = omega arith in
     let some : 0 < head.positions = omega (arith, c.if-self-eq0.false) in
     answer_ask (told_by head list) p _ _ some c.if-position-self.false
-    (decides_ground head list p c.if-position-self.false c.some-holds.result
-    (subst (λ (n : ℕ). Decides c.some-holds.result (SomeHolds (take n list) p p)) whole c.some-holds.ensures))
+    (decides_ground head list p c.if-position-self.false c.some_holds.result
+    (subst (λ (n : ℕ). Decides c.some_holds.result (SomeHolds (take n list) p p)) whole c.some_holds.ensures))

@@ -5,8 +5,8 @@ use Rattle.list_keeper.proofs.calls.ListKeeperKeeper.open.Goals as goal
 pub returns : goal.returns
 returns c =
     record {
-      opens = c.open-list.ensures.opens;
-      same-capacity = search rules;
+      opens = c.open_list.ensures.opens;
+      same_capacity = search rules;
       lent = search rules;
-      laid = laid c.open-list.new.head c.open-list.new.list c.open-list.ensures.kept c.args.self.now.list.now c.open-list.ensures.untouched;
+      laid = laid c.open_list.new.head c.open_list.new.list c.open_list.ensures.kept c.args.self.now.list.now c.open_list.ensures.untouched;
     }

@@ -14,4 +14,4 @@ returns c =
     let some : 0 < head.positions = omega (arith, c.if-self-eq0.false) in
     answer_pair (told_by head list) p q _ _ some c.if-p-self.false c.if-q-self.false
     (decides_share head list p q
-    (subst (λ (n : ℕ). Decides c.some-holds.result (SomeHolds (take n list) p q)) whole c.some-holds.ensures))
+    (subst (λ (n : ℕ). Decides c.some_holds.result (SomeHolds (take n list) p q)) whole c.some_holds.ensures))

@@ -23,7 +23,7 @@ returns c =
         own_core head list kept,
         sym long,
         room,
-        subst (λ (n : ℕ). c.copy-to.new.list ≡ take n list ++ drop (length (take n list)) c.args.list.now) whole c.copy-to.ensures,
+        subst (λ (n : ℕ). c.copy_to.new.list ≡ take n list ++ drop (length (take n list)) c.args.list.now) whole c.copy_to.ensures,
       ),
     )
 

@@ -20,8 +20,8 @@ returns-in-Added g c =
       lent = search rules;
     }
 
-pub returns-in-default : goal.returns-in-default
-returns-in-default g c =
+pub returns-in_default : goal.returns-in_default
+returns-in_default g c =
     record {
       adds = search rules;
       counted = search rules;

@@ -11,4 +11,4 @@ pub returns : goal.returns
 returns c =
     let d = told_with c.args.marks c.args.table.now in
     let apart = not_from_Decides _ c.if-meets.ensures refl in
-    Decides-like _ (supplied_left d _ _ c.requires.1 apart) (left_supplied d _ _ apart) c.is-supplied.ensures
+    Decides-like _ (supplied_left d _ _ c.requires.1 apart) (left_supplied d _ _ apart) c.is_supplied.ensures

@@ -14,9 +14,9 @@ pub loop-s-smaller : goal.loop-s-smaller
 loop-s-smaller c = omega (arith, and_le_l (c.loop-s.s - 1) c.args.mask, c.loop-s-test.true)
 
 pub loop-s-preserved : goal.loop-s-preserved
-loop-s-preserved c = none_next _ _ c.loop-s.s c.loop-s.invariant (λ q. both_ways _ (sym c.if-is-group.ensures) q.told)
+loop-s-preserved c = none_next _ _ c.loop-s.s c.loop-s.invariant (λ q. both_ways _ (sym c.if-is_group.ensures) q.told)
 
 pub returns : goal.returns
 returns c =
     decides_supplied _ _ _ _ (rw c.loop-s-test.false at c.loop-s.invariant)
-    (decides_group (told_with c.args.marks c.args.table.now) c.args.u _ c.is-group-2.ensures)
+    (decides_group (told_with c.args.marks c.args.table.now) c.args.u _ c.is_group-2.ensures)

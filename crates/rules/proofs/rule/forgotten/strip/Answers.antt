@@ -18,11 +18,11 @@ loop-u-preserved c =
     let inside : u / 8 < length c.loop-u.table = omega (arith, size, c.loop-u-test.true, pow_mono few) in
     let old = told_with c.args.marks c.args.table.now in
     let new = told_with c.args.marks c.loop-u.table in
-    written_up_more _ _ _ _ u c.is-left-on.result c.loop-u.invariant
+    written_up_more _ _ _ _ u c.is_left-on.result c.loop-u.invariant
     (Decides-like _
     (left_local new old c.args.mask u (λ g h. same_groups c.args.marks _ _ g (sym (c.loop-u.invariant.kept g h))))
     (left_local old new c.args.mask u (λ g h. same_groups c.args.marks _ _ g (c.loop-u.invariant.kept g h)))
-    c.is-left-on.ensures)
+    c.is_left-on.ensures)
     (c.put.ensures.at inside) c.put.ensures.others
 
 pub returns : goal.returns

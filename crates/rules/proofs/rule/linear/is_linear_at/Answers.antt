@@ -8,4 +8,4 @@ returns-then-reach-eq0 c =
 
 pub returns-else-reach-eq0 : goal.returns-else-reach-eq0
 returns-else-reach-eq0 c =
-    decides_or_once (told_with c.args.marks c.args.table.now) c.args.term c.args.p _ _ c.requires.1 (rw c.single.ensures at (c.reach.ensures c.args.marks.free c.args.marks.linear)) c.if-reach-eq0.false c.is-once.ensures
+    decides_or_once (told_with c.args.marks c.args.table.now) c.args.term c.args.p _ _ c.requires.1 (rw c.single.ensures at (c.reach.ensures c.args.marks.free c.args.marks.linear)) c.if-reach-eq0.false c.is_once.ensures

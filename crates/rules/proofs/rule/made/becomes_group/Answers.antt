@@ -8,12 +8,12 @@ pub returns-in-false-false : goal.returns-in-false-false
 returns-in-false-false c =
     decides_rest _ _ _ _ _ _ (not_from_Decides _ c.in-false-false.ensures refl)
     (not_from_Decides _ c.in-false-false.ensures' refl)
-    (decides_group (told_with c.args.marks c.args.table.now) c.args.u c.is-group.result c.is-group.ensures)
+    (decides_group (told_with c.args.marks c.args.table.now) c.args.u c.is_group.result c.is_group.ensures)
 
-pub returns-in-default : goal.returns-in-default
-returns-in-default c =
-    not_new _ _ _ _ _ (λ i. not_from_Decides _ c.in-default.ensures' refl) (inl (c.in-default.ensures.0 refl))
+pub returns-in_default : goal.returns-in_default
+returns-in_default c =
+    not_new _ _ _ _ _ (λ i. not_from_Decides _ c.in_default.ensures' refl) (inl (c.in_default.ensures.0 refl))
 
-pub returns-in-default·2 : goal.returns-in-default·2
-returns-in-default·2 c =
-    not_new _ _ _ _ _ (λ i m. not_from_Decides _ c.in-default.ensures refl i) (inr (c.in-default.ensures'.0 refl))
+pub returns-in_default-2 : goal.returns-in_default-2
+returns-in_default-2 c =
+    not_new _ _ _ _ _ (λ i m. not_from_Decides _ c.in_default.ensures refl i) (inr (c.in_default.ensures'.0 refl))

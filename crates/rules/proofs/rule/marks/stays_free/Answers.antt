@@ -7,8 +7,8 @@ returns c =
     record {
       kept =
           free_kept (told_with c.args.marks c.args.table.now) c.args.x c.args.term c.args.signs c.requires.1.1 _ _ c.single.ensures
-          (c.reach-near-x.ensures c.args.marks.free c.args.marks.linear) (c.reach-near-term.ensures c.args.marks.free c.args.marks.linear) _ _ c.without-kept.ensures c.without.ensures;
+          (c.reach-near_x.ensures c.args.marks.free c.args.marks.linear) (c.reach-near_term.ensures c.args.marks.free c.args.marks.linear) _ _ c.without-kept.ensures c.without.ensures;
       only =
           free_only (told_with c.args.marks c.args.table.now) c.args.x c.args.term c.args.signs c.requires.1.1 _ _ c.single.ensures
-          (c.reach-near-x.ensures c.args.marks.free c.args.marks.linear) (c.reach-near-term.ensures c.args.marks.free c.args.marks.linear) _ _ c.without-kept.ensures c.without.ensures;
+          (c.reach-near_x.ensures c.args.marks.free c.args.marks.linear) (c.reach-near_term.ensures c.args.marks.free c.args.marks.linear) _ _ c.without-kept.ensures c.without.ensures;
     }

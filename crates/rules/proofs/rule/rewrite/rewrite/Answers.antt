@@ -23,11 +23,11 @@ loop-u-preserved c =
     let new = Group (told_with c.args.marks c.loop-u.table) in
     let before : (g : ℕ) → Within g u → holds_bit c.loop-u.table g ≡ holds_bit c.args.table.now g =
     λ g w. c.loop-u.invariant.kept g (omega (arith, within_le w, c.loop-u-test.true)) in
-    written_more _ _ _ _ c.loop-u.u u _ c.becomes-group-on.result (omega arith) c.loop-u.invariant
+    written_more _ _ _ _ c.loop-u.u u _ c.becomes_group-on.result (omega arith) c.loop-u.invariant
     (Decides-like _
     (λ m. new_local new old c.args.x c.args.held u (λ g w. same_groups c.args.marks _ _ g (sym (before g w))) c.args.case m)
     (λ m. new_local old new c.args.x c.args.held u (λ g w. same_groups c.args.marks _ _ g (before g w)) c.args.case m)
-    c.becomes-group-on.ensures)
+    c.becomes_group-on.ensures)
     (c.put.ensures.at inside) c.put.ensures.others
 
 pub returns : goal.returns
