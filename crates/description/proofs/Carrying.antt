@@ -22,23 +22,18 @@ lawful_of n t f l counted range free ground held =
       free_is_not_ground = λ p i b. held p b.position i.digit (λ g e d. b.none g (record { told = e }) (record { digit = d }));
     }
 
--- what a description carries, one fact after the other
+-- what a description carries, each fact under its name
 pub carried :
     (n : ℕ) (t : List ℕ) (f l : ℕ) → Lawful (told_of n t f l)
-    → Counted n × ((l < 2 ^ n) × (FreeLinear f l × (GroundLinear n t l × (FreeHeld n t f × Unit {0}))))
-carried n t f l law = (
-  (law.some_positions, law.few_positions),
-  (
-    law.linear_in_range,
-    (
-      (λ p i. (law.free_is_linear p (record { digit = i })).digit),
-      (
-        (λ p h b. (law.ground_is_linear p (ground p h b)).digit),
-        ((λ p h i b. law.free_is_not_ground p (record { digit = i }) (ground p h b)), tt),
-      ),
-    ),
-  ),
-)
+    → record { counted : Counted n; bounded : l < 2 ^ n; freed : FreeLinear f l; grounded : GroundLinear n t l; held : FreeHeld n t f }
+carried n t f l law =
+    record {
+      counted = (law.some_positions, law.few_positions);
+      bounded = law.linear_in_range;
+      freed = λ p i. (law.free_is_linear p (record { digit = i })).digit;
+      grounded = λ p h b. (law.ground_is_linear p (ground p h b)).digit;
+      held = λ p h i b. law.free_is_not_ground p (record { digit = i }) (ground p h b);
+    }
   where
     ground : (p : ℕ) → p < n → Bare n t p → Ground (told_of n t f l) p
     ground p h b = record { position = h; none = λ g m i. b g m.told i.digit }

@@ -7,17 +7,17 @@ use Rattle.agreement.proofs.compare.are_alike.Goals as goal
 
 pub returns-in_err-one : goal.returns-in_err-one
 returns-in_err-one g c =
-    let p = err_from_is_err_and c.from-residual.result c.from-residual.ensures.1 in
+    let p = err_from_is_err_and c.from_residual.result c.from_residual.ensures.1 in
     record {
-      compared = compared_first _ _ _ _ _ c.in_err-one.field-0.0 c.from-residual.result c.in_err-one.ensures (p.1 ∙ ap (λ (x : KeeperFault). Err x) p.2);
+      compared = compared_first _ _ _ _ _ c.in_err-one.field-0.0 c.from_residual.result c.in_err-one.ensures (p.1 ∙ ap (λ (x : KeeperFault). Err x) p.2);
       not_told_apart = λ e. not_told_apart _ _ _;
     }
 
 pub returns-in_err-two : goal.returns-in_err-two
 returns-in_err-two g c =
-    let p = err_from_is_err_and c.from-residual-in_err-two.result c.from-residual-in_err-two.ensures.1 in
+    let p = err_from_is_err_and c.from_residual-in_err-two.result c.from_residual-in_err-two.ensures.1 in
     record {
-      compared = compared_second _ _ _ _ _ _ c.in_ok-one.one c.in_err-two.field-0.0 c.from-residual-in_err-two.result
+      compared = compared_second _ _ _ _ _ _ c.in_ok-one.one c.in_err-two.field-0.0 c.from_residual-in_err-two.result
           c.in_ok-one.ensures c.in_err-two.ensures (p.1 ∙ ap (λ (x : KeeperFault). Err x) p.2);
       not_told_apart = λ e. not_told_apart _ _ _;
     }

@@ -15,7 +15,7 @@ pub returns-in_err-after : goal.returns-in_err-after
 returns-in_err-after c =
     let d = c.args.self.now in
     let len = length c.args.scratch.now in
-    let p = err_from_is_err_and c.from-residual.result c.from-residual.ensures.1 in
+    let p = err_from_is_err_and c.from_residual.result c.from_residual.ensures.1 in
     rw (rule_refusal (λ d e. Joined d c.args.free c.args.linear c.args.groups.now e) (λ n k. first_of (join_tests n c.args.free c.args.linear c.args.groups.now k)) c.lay-before.result (told d) c.lay-before.new.scratch len
     d.counted.0 d.counted.1 c.lay-before.ensures.positions (omega arith) c.in_err-after.field-0.0 c.join_table.new.table c.in_err-after.ensures.gives)
     (p.1 ∙ ap (λ (e : Refusal). Err e) p.2)

@@ -12,8 +12,8 @@ returns-then-positions-eq0 c =
 pub put_singles-requires : goal.put_singles-requires
 put_singles-requires c = (omega arith, (omega arith, λ g. no_bits 512 g))
 
-pub invariant-of-result : goal.invariant-of-result
-invariant-of-result c =
+pub invariant_of-result : goal.invariant_of-result
+invariant_of-result c =
     carried c.args.positions c.put_singles.new.table _ _
     (new_lawful c.args.positions _ (omega arith) (omega arith)
     (new_of_lem c.args.positions c.put_singles.new.table c.put_singles.ensures _ (ap (λ (k : ℕ). k - 1) (one_shl c.args.positions 16 (omega arith)))))

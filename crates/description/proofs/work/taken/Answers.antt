@@ -4,8 +4,8 @@ use Rattle.description.proofs.Carrying.{carried}
 use Rattle.description.proofs.Laying.{told_taken}
 use Rattle.description.proofs.work.taken.Goals as goal
 
-pub invariant-of-result : goal.invariant-of-result
-invariant-of-result c =
+pub invariant_of-result : goal.invariant_of-result
+invariant_of-result c =
     let m = c.args.marks in
     let law = c.requires.1 in
     carried m.positions c.copied.result m.free m.linear

@@ -13,7 +13,7 @@ use Rattle.list_keeper.proofs.change.join_list.Goals as goal
 
 pub returns-in_err-marks : goal.returns-in_err-marks
 returns-in_err-marks c =
-    let p = err_from_is_err_and c.from-residual.result c.from-residual.ensures.1 in
+    let p = err_from_is_err_and c.from_residual.result c.from_residual.ensures.1 in
     let head = c.args.head.now in
     let list = c.args.list.now in
     let some : 0 < head.positions = omega (arith, c.if-head-eq0.false) in
@@ -23,7 +23,7 @@ returns-in_err-marks c =
       untouched = λ _. refl;
       joins = rule_refused (λ d e. Joined d c.args.free c.args.linear c.args.groups.now e) (λ n k. first_of (join_tests n c.args.free c.args.linear c.args.groups.now k)) c.load-before.result head list c.load-before.new.table (length c.args.scratch.now)
           some c.requires.few c.load-before.ensures.positions long c.in_err-marks.field-0.0 c.join_table.new.table c.in_err-marks.ensures.gives
-          (length list) c.from-residual.result (p.1 ∙ ap (λ (x : KeeperFault). Err x) p.2);
+          (length list) c.from_residual.result (p.1 ∙ ap (λ (x : KeeperFault). Err x) p.2);
     }
 
 pub returns : goal.returns

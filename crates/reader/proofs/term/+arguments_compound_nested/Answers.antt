@@ -8,13 +8,13 @@ use Rattle.reader.proofs.term.+arguments_compound_nested.Goals as goal
 
 pub arguments-returns-in_err-inner : goal.arguments-returns-in_err-inner
 arguments-returns-in_err-inner t c =
-    let p = err_from_is_err_and c.from-residual.result c.from-residual.ensures.1 in
+    let p = err_from_is_err_and c.from_residual.result c.from_residual.ensures.1 in
     rw (p.1, p.2)
     (stop_record _ _ _ _ _ _ _ c.loop-at-test.true c.in_err-inner.ensures.value c.loop-at.invariant.1)
 
 pub arguments-returns-in_err-nested : goal.arguments-returns-in_err-nested
 arguments-returns-in_err-nested t c =
-    let p = err_from_is_err_and c.from-residual-in_err-nested.result c.from-residual-in_err-nested.ensures.1 in
+    let p = err_from_is_err_and c.from_residual-in_err-nested.result c.from_residual-in_err-nested.ensures.1 in
     rw (p.1, p.2)
     (stop_tree _ (tree_of c.args.sheet.now c.args.depth) _ _ _ _ c.in_ok-inner.inner c.loop-at-test.true c.in_ok-inner.ensures.value _ c.in_err-nested.ensures c.loop-at.invariant.1)
 

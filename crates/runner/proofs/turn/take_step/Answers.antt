@@ -9,11 +9,11 @@ use Rattle.reader.specs.Following.{next_at}
 
 pub returns-in_err-answer : goal.returns-in_err-answer
 returns-in_err-answer g c =
-    let p = err_from_is_err_and c.from-residual-in_err-answer.result c.from-residual-in_err-answer.ensures.1 in
+    let p = err_from_is_err_and c.from_residual-in_err-answer.result c.from_residual-in_err-answer.ensures.1 in
     let room : c.args.cursor.step < length (slots c.args.marks.now) = omega (arith, c.len.ensures, c.capacity.ensures, c.requires.1.1.counted) in
     record {
       turns = turns_stop _ _ _ _ c.args.cursor c.in_ok-next.next (next_at c.args.sheet.now c.args.cursor.state c.args.cursor.at)
-          c.in_err-answer.field-0.0 (g.K.Keeper.told c.args.keeper.now) (g.K.Keeper.told c.serve.new.keeper) (slots c.args.marks.now) c.from-residual-in_err-answer.result p.0 c.in_ok-next.ensures.value
+          c.in_err-answer.field-0.0 (g.K.Keeper.told c.args.keeper.now) (g.K.Keeper.told c.serve.new.keeper) (slots c.args.marks.now) c.from_residual-in_err-answer.result p.0 c.in_ok-next.ensures.value
           room (let q = c.groups.ensures in let l = c.if-groups.false in omega arith)
           c.in_err-answer.ensures.serves p.1 p.2;
       onward = rw p.1 tt;

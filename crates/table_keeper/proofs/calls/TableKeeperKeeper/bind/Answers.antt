@@ -12,15 +12,15 @@ use Rattle.table_keeper.proofs.calls.TableKeeperKeeper.bind.Goals as goal
 
 pub returns-in_err-held : goal.returns-in_err-held
 returns-in_err-held c =
-    let p = err_from_is_err_and c.from-residual.result c.from-residual.ensures.1 in
+    let p = err_from_is_err_and c.from_residual.result c.from_residual.ensures.1 in
     record {
       binds = change_refused Alike (λ e. alike_refl) _ c.in-Some.held c.in-Some.is
           (λ n. first_of (bind_tests n c.args.position c.args.term (length c.args.scratch.now))) (λ d. Bound d c.args.position c.args.term)
-          c.in_err-held.field-0.0 c.from-residual.result (p.1 ∙ ap (λ (x : KeeperFault). Err x) p.2) c.in_err-held.ensures;
+          c.in_err-held.field-0.0 c.from_residual.result (p.1 ∙ ap (λ (x : KeeperFault). Err x) p.2) c.in_err-held.ensures;
       same_capacity = refl;
       exactly = change_refused Exactly (λ e. refl) _ c.in-Some.held c.in-Some.is
           (λ n. first_of (bind_tests n c.args.position c.args.term (length c.args.scratch.now))) (λ d. Bound d c.args.position c.args.term)
-          c.in_err-held.field-0.0 c.from-residual.result (p.1 ∙ ap (λ (x : KeeperFault). Err x) p.2) c.in_err-held.ensures;
+          c.in_err-held.field-0.0 c.from_residual.result (p.1 ∙ ap (λ (x : KeeperFault). Err x) p.2) c.in_err-held.ensures;
     }
 
 pub returns : goal.returns
