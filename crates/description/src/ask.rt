@@ -7,7 +7,7 @@ ghost use Rattle.domain.specs.Told.{Ground, Share};
 ghost use Rattle.std.specs.Prelude.{Decides};
 
 use crate::Description;
-use domain::mask::has;
+use domain::mask;
 use domain::refusal::Refusal;
 use rules::lent::reach_table;
 
@@ -29,7 +29,7 @@ impl Description {
         if p >= self.positions {
             return Err(Refusal::Position);
         }
-        Ok(has(self.free, p))
+        Ok(mask::has(self.free, p))
     }
 
     pub fn is_linear(&self, p: u8) -> Result<bool, Refusal>
@@ -38,7 +38,7 @@ impl Description {
         if p >= self.positions {
             return Err(Refusal::Position);
         }
-        Ok(has(self.linear, p))
+        Ok(mask::has(self.linear, p))
     }
 
     // Whether one group holds both positions.
@@ -49,6 +49,6 @@ impl Description {
             return Err(Refusal::Position);
         }
         let reached = reach_table(&self.table, self.positions, 1 << p)?;
-        Ok(has(reached, q))
+        Ok(mask::has(reached, q))
     }
 }

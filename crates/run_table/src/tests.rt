@@ -12,10 +12,10 @@ use std::process::Abort;
 use std::test::Fail;
 use table_keeper::TableKeeper;
 
-fn prints(rt: &impl Abort, heap: Global, sheet: &[u8], text: &str) -> Result<(), Fail> {
+fn prints(rt: &impl Abort, heap: Global, sheet: &[u8], text: &str, what: &str) -> Result<(), Fail> {
     let mut keeper = TableKeeper::new();
     let printed = run_sheet(heap, &mut keeper, sheet)?;
-    assert!(rt; printed.as_str() == text);
+    assert!(rt; printed.as_str() == text, "{what}");
     Ok(())
 }
 
@@ -23,9 +23,19 @@ fn prints(rt: &impl Abort, heap: Global, sheet: &[u8], text: &str) -> Result<(),
 fn a_sheet_that_cannot_be_read(rt: HostRuntime) -> Result<(), Fail> {
     let heap = rt.alloc();
     // no bytes at all
-    prints(&rt, heap, b"", "refused 1 at 0 step 0 reader\n").note("no bytes at all")?;
+    prints(
+        &rt,
+        heap,
+        b"",
+        "refused 1 at 0 step 0 reader\n",
+        "no bytes at all",
+    )?;
     // three bytes are no record
-    prints(&rt, heap, b"\x01\x00\x01", "refused 1 at 0 step 0 reader\n").note(
+    prints(
+        &rt,
+        heap,
+        b"\x01\x00\x01",
+        "refused 1 at 0 step 0 reader\n",
         "three bytes are no record",
     )?;
     // no end comes
@@ -34,48 +44,48 @@ fn a_sheet_that_cannot_be_read(rt: HostRuntime) -> Result<(), Fail> {
         heap,
         b"\x01\x00\x01\x00\x02",
         "0 open yes\nrefused 1 at 5 step 1 reader\n",
-    )
-    .note("no end comes")?;
+        "no end comes",
+    )?;
     // a term that runs past its bind
     prints(
         &rt,
         heap,
         b"\x01\x00\x01\x00\x02\x06\x00\x02\x00\x00\x02\x00\x11\x00\x01\x00\x00\x06\x00",
         "0 open yes\nrefused 1 at 10 step 1 reader\n",
-    )
-    .note("a term that runs past its bind")?;
+        "a term that runs past its bind",
+    )?;
     // a kind that is none
     prints(
         &rt,
         heap,
         b"\x04\x00\x07\x00\x00\x00\x00\x00",
         "refused 2 at 0 step 0 reader\n",
-    )
-    .note("a kind that is none")?;
+        "a kind that is none",
+    )?;
     // a step where a term belongs
     prints(
         &rt,
         heap,
         b"\x01\x00\x01\x00\x02\x05\x00\x02\x00\x00\x00\x00\x06\x00\x00\x00\x06\x00",
         "0 open yes\nrefused 2 at 10 step 1 reader\n",
-    )
-    .note("a step where a term belongs")?;
+        "a step where a term belongs",
+    )?;
     // an open of two bytes
     prints(
         &rt,
         heap,
         b"\x02\x00\x01\x00\x02\x02\x00\x00\x06\x00",
         "refused 3 at 0 step 0 reader\n",
-    )
-    .note("an open of two bytes")?;
+        "an open of two bytes",
+    )?;
     // bytes after the term
     prints(
         &rt,
         heap,
         b"\x01\x00\x01\x00\x02\x07\x00\x02\x00\x00\x01\x00\x11\x00\x01\x00\x00\x00\x06\x00",
         "0 open yes\nrefused 3 at 5 step 1 reader\n",
+        "bytes after the term",
     )
-    .note("bytes after the term")
 }
 
 #[test]
@@ -87,24 +97,24 @@ fn a_step_out_of_turn(rt: HostRuntime) -> Result<(), Fail> {
         heap,
         b"\x06\x00\x02\x00\x00\x01\x00\x11\x00\x01",
         "refused 4 at 0 step 0 runner\n",
-    )
-    .note("a bind before the open")?;
+        "a bind before the open",
+    )?;
     // a second open
     prints(
         &rt,
         heap,
         b"\x01\x00\x01\x00\x02\x01\x00\x01\x00\x02\x00\x00\x06\x00",
         "0 open yes\nrefused 4 at 5 step 1 runner\n",
-    )
-    .note("a second open")?;
+        "a second open",
+    )?;
     // a byte after the end
     prints(
         &rt,
         heap,
         b"\x01\x00\x01\x00\x02\x00\x00\x06\x00\x00",
         "0 open yes\n5 end yes\nrefused 4 at 9 step 2 runner\n",
-    )
-    .note("a byte after the end")?;
+        "a byte after the end",
+    )?;
     Ok(())
 }
 
@@ -117,48 +127,48 @@ fn numbers_out_of_range(rt: HostRuntime) -> Result<(), Fail> {
         heap,
         b"\x01\x00\x01\x00\x00\x00\x00\x06\x00",
         "refused 5 at 0 step 0 keeper\n",
-    )
-    .note("no positions")?;
+        "no positions",
+    )?;
     // too many positions
     prints(
         &rt,
         heap,
         b"\x01\x00\x01\x00\x0d\x00\x00\x06\x00",
         "refused 5 at 0 step 0 keeper\n",
-    )
-    .note("too many positions")?;
+        "too many positions",
+    )?;
     // a position that no sheet has
     prints(
         &rt,
         heap,
         b"\x01\x00\x01\x00\x02\x06\x00\x02\x00\x0c\x01\x00\x11\x00\x01\x00\x00\x06\x00",
         "0 open yes\nrefused 6 at 5 step 1 reader\n",
-    )
-    .note("a position that no sheet has")?;
+        "a position that no sheet has",
+    )?;
     // a position that this record has not
     prints(
         &rt,
         heap,
         b"\x01\x00\x01\x00\x02\x06\x00\x02\x00\x00\x01\x00\x11\x00\x02\x00\x00\x06\x00",
         "0 open yes\nrefused 6 at 5 step 1 keeper\n",
-    )
-    .note("a position that this record has not")?;
+        "a position that this record has not",
+    )?;
     // a question of such a position
     prints(
         &rt,
         heap,
         b"\x01\x00\x01\x00\x02\x02\x00\x05\x00\x67\x02\x00\x00\x06\x00",
         "0 open yes\nrefused 6 at 5 step 1 keeper\n",
-    )
-    .note("a question of such a position")?;
+        "a question of such a position",
+    )?;
     // a position bound to itself
     prints(
         &rt,
         heap,
         b"\x01\x00\x01\x00\x02\x06\x00\x02\x00\x00\x01\x00\x11\x00\x00\x00\x00\x06\x00",
         "0 open yes\nrefused 7 at 5 step 1 keeper\n",
+        "a position bound to itself",
     )
-    .note("a position bound to itself")
 }
 
 #[test]
@@ -170,40 +180,40 @@ fn depths_and_letters(rt: HostRuntime) -> Result<(), Fail> {
         heap,
         b"\x01\x00\x01\x00\x02\x67\x00\x02\x00\x00\x62\x00\x13\x00\x00\x00\x5c\x00\x13\x00\x00\x00\x56\x00\x13\x00\x00\x00\x50\x00\x13\x00\x00\x00\x4a\x00\x13\x00\x00\x00\x44\x00\x13\x00\x00\x00\x3e\x00\x13\x00\x00\x00\x38\x00\x13\x00\x00\x00\x32\x00\x13\x00\x00\x00\x2c\x00\x13\x00\x00\x00\x26\x00\x13\x00\x00\x00\x20\x00\x13\x00\x00\x00\x1a\x00\x13\x00\x00\x00\x14\x00\x13\x00\x00\x00\x0e\x00\x13\x00\x00\x00\x08\x00\x13\x00\x00\x00\x02\x00\x12\x00\x00\x00\x00\x00\x06\x00",
         "0 open yes\n5 bind yes\n112 end yes\n",
-    )
-    .note("sixteen deep")?;
+        "sixteen deep",
+    )?;
     // seventeen deep
     prints(
         &rt,
         heap,
         b"\x01\x00\x01\x00\x02\x6d\x00\x02\x00\x00\x68\x00\x13\x00\x00\x00\x62\x00\x13\x00\x00\x00\x5c\x00\x13\x00\x00\x00\x56\x00\x13\x00\x00\x00\x50\x00\x13\x00\x00\x00\x4a\x00\x13\x00\x00\x00\x44\x00\x13\x00\x00\x00\x3e\x00\x13\x00\x00\x00\x38\x00\x13\x00\x00\x00\x32\x00\x13\x00\x00\x00\x2c\x00\x13\x00\x00\x00\x26\x00\x13\x00\x00\x00\x20\x00\x13\x00\x00\x00\x1a\x00\x13\x00\x00\x00\x14\x00\x13\x00\x00\x00\x0e\x00\x13\x00\x00\x00\x08\x00\x13\x00\x00\x00\x02\x00\x12\x00\x00\x00\x00\x00\x06\x00",
         "0 open yes\nrefused 8 at 106 step 1 reader\n",
-    )
-    .note("seventeen deep")?;
+        "seventeen deep",
+    )?;
     // an unknown letter
     prints(
         &rt,
         heap,
         b"\x01\x00\x01\x00\x02\x02\x00\x05\x00\x78\x00\x00\x00\x06\x00",
         "0 open yes\nrefused 11 at 5 step 1 reader\n",
-    )
-    .note("an unknown letter")?;
+        "an unknown letter",
+    )?;
     // a letter that wants two positions
     prints(
         &rt,
         heap,
         b"\x01\x00\x01\x00\x02\x02\x00\x05\x00\x70\x00\x00\x00\x06\x00",
         "0 open yes\nrefused 3 at 5 step 1 reader\n",
-    )
-    .note("a letter that wants two positions")?;
+        "a letter that wants two positions",
+    )?;
     // a letter that wants one
     prints(
         &rt,
         heap,
         b"\x01\x00\x01\x00\x02\x03\x00\x05\x00\x67\x00\x01\x00\x00\x06\x00",
         "0 open yes\nrefused 3 at 5 step 1 reader\n",
+        "a letter that wants one",
     )
-    .note("a letter that wants one")
 }
 
 #[test]
@@ -215,32 +225,32 @@ fn worked_binds(rt: HostRuntime) -> Result<(), Fail> {
         heap,
         b"\x01\x00\x01\x00\x03\x11\x00\x02\x00\x00\x0c\x00\x13\x00\x00\x00\x01\x00\x11\x00\x01\x01\x00\x11\x00\x02\x03\x00\x05\x00\x70\x00\x01\x03\x00\x05\x00\x70\x00\x02\x03\x00\x05\x00\x70\x01\x02\x02\x00\x05\x00\x66\x00\x02\x00\x05\x00\x66\x01\x02\x00\x05\x00\x6c\x00\x00\x00\x06\x00",
         "0 open yes\n5 bind yes\n26 ask yes\n33 ask yes\n40 ask no\n47 ask no\n53 ask yes\n59 ask yes\n65 end yes\n",
-    )
-    .note("0 bound to f(1, 2): groups 3 and 5, free 6, linear 7")?;
+        "0 bound to f(1, 2): groups 3 and 5, free 6, linear 7",
+    )?;
     // 0 bound to f(1, 1): group 3, free 2, linear 2
     prints(
         &rt,
         heap,
         b"\x01\x00\x01\x00\x02\x11\x00\x02\x00\x00\x0c\x00\x13\x00\x00\x00\x01\x00\x11\x00\x01\x01\x00\x11\x00\x01\x03\x00\x05\x00\x70\x00\x01\x02\x00\x05\x00\x66\x00\x02\x00\x05\x00\x66\x01\x02\x00\x05\x00\x6c\x00\x02\x00\x05\x00\x6c\x01\x00\x00\x06\x00",
         "0 open yes\n5 bind yes\n26 ask yes\n33 ask no\n39 ask yes\n45 ask no\n51 ask yes\n57 end yes\n",
-    )
-    .note("0 bound to f(1, 1): group 3, free 2, linear 2")?;
+        "0 bound to f(1, 1): group 3, free 2, linear 2",
+    )?;
     // and then to a constant: both ground, so both linear again
     prints(
         &rt,
         heap,
         b"\x01\x00\x01\x00\x02\x11\x00\x02\x00\x00\x0c\x00\x13\x00\x00\x00\x01\x00\x11\x00\x01\x01\x00\x11\x00\x01\x07\x00\x02\x00\x00\x02\x00\x12\x00\x00\x00\x02\x00\x05\x00\x67\x00\x02\x00\x05\x00\x67\x01\x02\x00\x05\x00\x6c\x00\x02\x00\x05\x00\x6c\x01\x00\x00\x06\x00",
         "0 open yes\n5 bind yes\n26 bind yes\n37 ask yes\n43 ask yes\n49 ask yes\n55 ask yes\n61 end yes\n",
-    )
-    .note("and then to a constant: both ground, so both linear again")?;
+        "and then to a constant: both ground, so both linear again",
+    )?;
     // after 0 is bound to 1 the term f(0, 1) is not linear
     prints(
         &rt,
         heap,
         b"\x01\x00\x01\x00\x03\x06\x00\x02\x00\x00\x01\x00\x11\x00\x01\x11\x00\x02\x00\x02\x0c\x00\x13\x00\x00\x00\x01\x00\x11\x00\x00\x01\x00\x11\x00\x01\x02\x00\x05\x00\x6c\x02\x02\x00\x05\x00\x66\x00\x00\x00\x06\x00",
         "0 open yes\n5 bind yes\n15 bind yes\n36 ask no\n42 ask yes\n48 end yes\n",
+        "after 0 is bound to 1 the term f(0, 1) is not linear",
     )
-    .note("after 0 is bound to 1 the term f(0, 1) is not linear")
 }
 
 // A work list that is too short is refused by the one who needs it.
@@ -358,6 +368,7 @@ fn long_sheets(rt: HostRuntime) -> Result<(), Fail> {
         heap,
         bytes.as_slice(),
         "refused 2 at 0 step 0 reader\n",
+        "65,535 bytes",
     )?;
     bytes.push(0)?;
     prints(
@@ -365,6 +376,7 @@ fn long_sheets(rt: HostRuntime) -> Result<(), Fail> {
         heap,
         bytes.as_slice(),
         "refused 3 at 0 step 0 reader\n",
+        "65,536 bytes",
     )
 }
 
