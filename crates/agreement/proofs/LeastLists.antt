@@ -2,7 +2,7 @@
 use Rattle.std.proofs.Common.{ℕ, List, Ok, Err, Result, sym, ◌∙◌}
 use Rattle.coverage.proofs.CoreLeast.{core_held, core_same, dec_group}
 use Rattle.coverage.proofs.Cover.{alike_turned, same_turned, same_trans, same_groups}
-use Rattle.domain.specs.Coverage.{Alike, Core, CoreList}
+use Rattle.domain.specs.Coverage.{Alike, CoreList}
 use Rattle.domain.specs.Told.{Told, Group}
 use Rattle.keeper.specs.Calls.{Writes}
 use Rattle.keeper.specs.declared.fault.KeeperFault.{KeeperFault}

@@ -1,5 +1,5 @@
 -- What a keeper tells is alike with its reckoned description.
-use Rattle.std.proofs.Common.{◌≡◌, ℕ, not, eqb, List, [], ◌∷◌, Some, None, Ok, Err, Option, Result, sym, refl, ap, ◌∙◌, subst, arith}
+use Rattle.std.proofs.Common.{◌≡◌, ℕ, not, eqb, List, [], ◌∷◌, Some, None, Ok, Err, Option, Result, sym, refl, ◌∙◌, subst, arith}
 use Rattle.coverage.proofs.BindAlike.{bind_alike}
 use Rattle.coverage.proofs.CoreLeast.{core_fits}
 use Rattle.coverage.proofs.Cover.{alike_turned, same_groups}

@@ -1,5 +1,5 @@
 -- A reckoned description keeps the rules.
-use Rattle.std.proofs.Common.{◌≡◌, ℕ, ◌-◌, ◌^◌, ◌<◌, Bool, true, false, not, eqb, ltb, leb, List, [], ◌∷◌, None, Option, sym, refl, ap, ◌∙◌, subst, arith, leb-false}
+use Rattle.std.proofs.Common.{◌≡◌, ℕ, ◌^◌, ◌<◌, Bool, true, false, not, eqb, ltb, List, [], ◌∷◌, None, Option, sym, refl, ap, ◌∙◌, subst, arith, leb-false}
 use Rattle.coverage.proofs.Kept.{new_lawful, bind_lawful}
 use Rattle.domain.proofs.Forgetting.{forget_lawful}
 use Rattle.domain.proofs.Joining.{join_lawful, join_allowed}

@@ -1,5 +1,5 @@
 -- What the entries of a list keeper answer.
-use Rattle.std.proofs.Common.{ℕ, ◌<◌, Bool, not, eqb, leb, List, take, Ok, Decides, arith}
+use Rattle.std.proofs.Common.{ℕ, ◌<◌, Bool, not, List, take, Ok, Decides, arith}
 use Rattle.std.proofs.lemmas.Bool.{ne_eqb, lt-leb}
 use Rattle.coverage.proofs.Verdicts.{decides_map, decides_not}
 use Rattle.domain.specs.Told.{Told, Share, Ground}

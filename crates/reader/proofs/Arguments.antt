@@ -7,7 +7,7 @@ use Rattle.reader.specs.declared.record.Record.{Record}
 use Rattle.domain.specs.declared.refusal.Refusal.TheVariants.{Depth}
 use Rattle.reader.specs.Reading.{Read, ◌>>=◌, fault}
 use Rattle.reader.specs.Records.{record_at, payload}
-use Rattle.reader.specs.Terms.{Tree, Args, compound, none, more, summary, gathered, nothing, beside}
+use Rattle.reader.specs.Terms.{Tree, Args, compound, none, more, summary, nothing, beside}
 use Rattle.reader.specs.Trees.{args_by, args_of, compound_of, tree_of, summed, onto}
 
 -- what the terms from a place on make of what is gathered so far is the whole

@@ -1,5 +1,5 @@
 -- The binary digits of masks: of a union, of what is common, of one position.
-use Rattle.std.proofs.Common.{◌≡◌, ℕ, zero, suc, ◌+◌, ◌-◌, ◌/◌, ◌%◌, ◌^◌, ◌<◌, min, max, false, cond, eqb, ◌⊎◌, ap, ◌∙◌, inl, inr, arith}
+use Rattle.std.proofs.Common.{◌≡◌, ℕ, suc, ◌+◌, ◌-◌, ◌/◌, ◌%◌, ◌^◌, ◌<◌, min, max, false, cond, eqb, ◌⊎◌, ap, ◌∙◌, inl, inr, arith}
 use native.Mathlib.Nat.{zero-div, div_self, div-eq_of_lt, pow-succ'}
 use lib.Bits.{bit_and, bit_or, and_step, or_step, and_shr, or_shr}
 use Rattle.std.proofs.lemmas.Nat.{pow_pos, pow_below, shl-shr, pow-add}

@@ -1,7 +1,7 @@
 -- A table keeper has room for every description: there are no more than 4,095 groups.
 use Rattle.std.proofs.Common.{◌≡◌, ℕ, zero, suc, ◌^◌, ◌<◌, ◌≤◌, List, [], ◌∷◌, length, refl, ap, subst, lt_of_not-le, arith, pow_mono}
 use native.Mathlib.Decide.{dec_le}
-use Rattle.domain.specs.Coverage.{Core, CoreFits, Listed, here, there}
+use Rattle.domain.specs.Coverage.{CoreFits, Listed, here, there}
 use Rattle.domain.specs.Told.{Told, Group, Lawful}
 
 -- the masks from k down to 1

@@ -3,7 +3,6 @@ use Rattle.std.proofs.Common.{ℕ, List, inl, inr}
 use Rattle.domain.specs.Binding.{Made, NewGroup, rest, made}
 use Rattle.domain.specs.Groups.{XGroup, TGroup, Shared, Rest}
 use Rattle.domain.specs.Masks.{In, Meets}
-use Rattle.domain.specs.Requests.{without}
 use Rattle.domain.specs.Told.{Group}
 use Rattle.domain.specs.declared.case.Case.TheVariants.{Free, BothLinear, PositionLinear, TermLinear, Neither}
 use Rattle.domain.specs.declared.case.Case.{Case}

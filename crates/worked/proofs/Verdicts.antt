@@ -12,7 +12,7 @@ use Rattle.domain.specs.Told.{Group, Share, Ground}
 use Rattle.domain.specs.declared.term.Term.{Term}
 use Rattle.worked.proofs.BindGroups.{lists_told}
 use Rattle.worked.proofs.Gathering.{Lists, Says, Which, lists_keep}
-use Rattle.worked.proofs.Positions.{each, says_has, says_contained, says_both, says_either, says_none, says_as, says_each, Marks, marks_self, marks_and, Held, marks_held}
+use Rattle.worked.proofs.Positions.{says_has, says_contained, says_both, says_either, says_none, says_as, says_each, Marks, marks_self, marks_and, Held, marks_held}
 use Rattle.worked.proofs.States.{State, tell, sharing, free_term, once, linear_term}
 
 pub marks_sharing : {P : ℕ → Type 0} {gs : List ℕ} → Lists P gs → (p : ℕ) → Marks (Held (Which P (In p))) (sharing gs p)

@@ -1,4 +1,4 @@
-use Rattle.std.proofs.Common.{take, arith}
+use Rattle.std.proofs.Common.{arith}
 use Rattle.std.proofs.lemmas.List.{take_more_same}
 use Rattle.agreement.proofs.Prefixes.{differ_decides, ends_alike}
 use Rattle.agreement.proofs.compare.same_groups.Goals as goal

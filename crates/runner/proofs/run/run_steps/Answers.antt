@@ -1,4 +1,4 @@
-use Rattle.std.proofs.Common.{Err, refl, ap, ◌∙◌}
+use Rattle.std.proofs.Common.{refl, ◌∙◌}
 use Rattle.roll.specs.Views.{slots}
 use Rattle.runner.proofs.Marking.{marked_start}
 use Rattle.runner.proofs.Runs.{runs_start, runs_again, runs_fault, runs_end}

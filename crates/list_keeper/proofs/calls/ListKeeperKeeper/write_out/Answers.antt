@@ -1,4 +1,4 @@
-use Rattle.std.proofs.Common.{◌≡◌, ℕ, ◌-◌, ◌≤◌, not, eqb, ◌++◌, length, take, drop, sym, refl, ap, subst, inr, arith, length-take-le}
+use Rattle.std.proofs.Common.{◌≡◌, ℕ, ◌-◌, ◌≤◌, not, ◌++◌, length, take, drop, sym, refl, ap, subst, inr, arith, length-take-le}
 use Rattle.std.proofs.lemmas.Bool.{ne_eqb}
 use Rattle.coverage.proofs.Counting.{fits_count}
 use Rattle.coverage.proofs.ExistsFit.{list_counted}
