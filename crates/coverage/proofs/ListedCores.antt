@@ -1,7 +1,7 @@
 -- Writing the core groups into a list, in ascending order.
 use Rattle.std.proofs.Common.{◌≡◌, ℕ, ◌+◌, ◌<◌, ◌≤◌, Bool, true, false, ◌||◌, eqb, ltb, ◌⊎◌, List, [], ◌∷◌, ◌++◌, length, take, drop, set, None, Ok, sym, refl, ap, ◌∙◌, subst, inl, inr, arith, length-append, length-drop, take_at, ltb-false}
 use native.Mathlib.Decide.{ℕ_discrete}
-use Rattle.std.specs.List.{AllByRecursion as All}
+use Rattle.std.specs.List.{AllByRecursion}
 use Rattle.domain.specs.Coverage.{Core, CoreFits, Listed, here, there}
 use Rattle.domain.proofs.Written.{written_more}
 use Rattle.domain.specs.Lists.{Above, none, next}
@@ -99,14 +99,14 @@ pub list_long : {G : ℕ → Type 0} {start list : List ℕ} {g used : ℕ} → 
 list_long {start = start} {used = used} room w =
     ap length w.at_start ∙ omega (arith, length-append w.groups (drop used start), length-drop used start, w.counted)
 
-all_listed : (P : ℕ → Type 0) (gs : List ℕ) → ((h : ℕ) → Listed h gs → P h) → All P gs
+all_listed : (P : ℕ → Type 0) (gs : List ℕ) → ((h : ℕ) → Listed h gs → P h) → AllByRecursion P gs
 all_listed P [] each = tt
 all_listed P (g ∷ gs) each = (each g here, all_listed P gs (λ h l. each h (there l)))
 
 -- the groups listed so far are below g
-pub list_below : {G : ℕ → Type 0} {start list : List ℕ} {g used : ℕ} → ListedTo G start g used list → All (λ (h : ℕ). h < g) (take used list)
+pub list_below : {G : ℕ → Type 0} {start list : List ℕ} {g used : ℕ} → ListedTo G start g used list → AllByRecursion (λ (h : ℕ). h < g) (take used list)
 list_below {start = start} {g = g} {used = used} w =
-    subst (All (λ (h : ℕ). h < g)) (sym (ap (take used) w.at_start ∙ take_at w.groups (drop used start) used w.counted))
+    subst (AllByRecursion (λ (h : ℕ). h < g)) (sym (ap (take used) w.at_start ∙ take_at w.groups (drop used start) used w.counted))
     (all_listed (λ h. h < g) w.groups (λ h l. (w.only h l).1))
 
 pub list_end : {G : ℕ → Type 0} {start list : List ℕ} {g used : ℕ} → ((h : ℕ) → Core G h → h < g) → ListedTo G start g used list → FillsCore G start list used

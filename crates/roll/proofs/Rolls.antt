@@ -2,7 +2,7 @@
 -- leaves as it was.
 use Rattle.std.proofs.Common.{◌≡◌, ℕ, zero, suc, ◌+◌, ◌-◌, ◌<◌, ◌≤◌, Bool, true, false, cond, ltb, List, [], ◌∷◌, ◌++◌, length, get_or, take, drop, set, sym, refl, ap, ◌∙◌, subst, add-one, one-add, arith}
 use lib.Seq.{paste}
-use Rattle.std.specs.List.{insert as inserted, AllByRecursion as All}
+use Rattle.std.specs.List.{insert as inserted, AllByRecursion}
 use Rattle.std.proofs.lemmas.List.{append_assoc, drop_more, take_more, take_all, drop_all, drop-set-lt, length-append, length-drop, length-take-le, set-append_left, set_at, set_split, take-append-drop, take_at, take-take, drop-take}
 use Rattle.std.proofs.lemmas.List.Edits.{drop-paste}
 use Rattle.std.proofs.ByRecursion.{All-weaker}
@@ -133,10 +133,10 @@ module _ {X : Type 0} (xs : List X) (p used : ℕ) (x : X) (before : p ≤ used)
 
 -- What one more entry keeps.
 module _ {X : Type 0} (rank : X → ℕ) (x : X) where
-  all_insert : (P : X → Type 0) → P x → (xs : List X) → All P xs → All P (insert rank x xs)
+  all_insert : (P : X → Type 0) → P x → (xs : List X) → AllByRecursion P xs → AllByRecursion P (insert rank x xs)
   all_insert P new [] all = (new, tt)
   all_insert P new (y ∷ ys) all =
-      elim (ltb (rank x) (rank y)) as (λ v. All P (cond v (x ∷ (y ∷ ys)) (y ∷ insert rank x ys)))
+      elim (ltb (rank x) (rank y)) as (λ v. AllByRecursion P (cond v (x ∷ (y ∷ ys)) (y ∷ insert rank x ys)))
       [ true ↦ (new, all) | false ↦ (all.0, all_insert P new ys all.1) ]
 
   -- an ascending list without that rank stays ascending
@@ -201,20 +201,20 @@ module _ {X K : Type 0} (key : X → K) (rank : K → ℕ) (x : X) (used : ℕ) 
 
 -- an entry above all others goes to the end, and its key is not held
 module _ {X K : Type 0} (key : X → K) (rank : K → ℕ) (x : X) where
-  insert_last : (xs : List X) → All (λ e. rank (key e) < rank (key x)) xs → insert (λ e. rank (key e)) x xs ≡ xs ++ x ∷ []
+  insert_last : (xs : List X) → AllByRecursion (λ e. rank (key e) < rank (key x)) xs → insert (λ e. rank (key e)) x xs ≡ xs ++ x ∷ []
   insert_last [] below = refl
   insert_last (y ∷ ys) below =
       let le : rank (key y) ≤ rank (key x) = (let lt = below.0 in omega arith) in
       cond-false _ (x ∷ (y ∷ ys)) (y ∷ insert (λ e. rank (key e)) x ys) (le-ltb (rank (key x)) (rank (key y)) le)
       ∙ ap (λ (zs : List X). y ∷ zs) (insert_last ys below.1)
 
-  above_fresh : (xs : List X) → All (λ e. rank (key e) < rank (key x)) xs → Holds key (key x) xs → ⊥
+  above_fresh : (xs : List X) → AllByRecursion (λ e. rank (key e) < rank (key x)) xs → Holds key (key x) xs → ⊥
   above_fresh [] below h = elim h [ ]
   above_fresh (y ∷ ys) below (here e) = let same = ap rank e in let lt = below.0 in omega arith
   above_fresh (y ∷ ys) below (there h) = above_fresh ys below.1 h
 
   module _ (used : ℕ) (xs ys : List X) where
-    written_last : Joins key rank x used xs ys → used < length xs → All (λ e. rank (key e) < rank (key x)) (take used xs) → ys ≡ set xs used x
+    written_last : Joins key rank x used xs ys → used < length xs → AllByRecursion (λ e. rank (key e) < rank (key x)) (take used xs) → ys ≡ set xs used x
     written_last a room below =
         let front : take (used + 1) ys ≡ take used xs ++ x ∷ [] = a.listed ∙ insert_last (take used xs) below in
         sym (take-append-drop (used + 1) ys) ∙ rw (front, a.spare) (append_assoc (take used xs) (x ∷ []) (drop (used + 1) xs))

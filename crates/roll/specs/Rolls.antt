@@ -1,6 +1,6 @@
 -- Lists of entries with keys: which hold a key, how many entries have it, and where one more goes.
 use Rattle.std.specs.Prelude.{◌≡◌, ℕ, suc, ◌+◌, ◌<◌, cond, List, [], ◌∷◌, length, take, drop, ◌≢◌, nat_lt, slice_set}
-use Rattle.std.specs.List.{AllByRecursion as All}
+use Rattle.std.specs.List.{AllByRecursion}
 use Rattle.roll.specs.declared.added.Added.{Added}
 use Rattle.roll.specs.declared.added.Added.TheVariants as added
 
@@ -18,7 +18,7 @@ pub data Counts {X K : Type 0} (key : X → K) (k : K) : List X → ℕ → Type
 -- the numbers that the entries stand for rise
 abbrev pub Ascending : {X : Type 0} → (X → ℕ) → List X → Type 0
 Ascending rank [] = Unit {0}
-Ascending rank (x ∷ xs) = All (λ y. rank x < rank y) xs × Ascending rank xs
+Ascending rank (x ∷ xs) = AllByRecursion (λ y. rank x < rank y) xs × Ascending rank xs
 
 -- how many entries stand before the first with a larger rank
 abbrev pub place : {X : Type 0} → (X → ℕ) → ℕ → List X → ℕ
@@ -54,7 +54,7 @@ Adds key rank entry used before after added.Full =
 -- An entry above all in use is written behind them where one is left over, and no other entry changes.
 abbrev pub Appends : {X K : Type 0} → (X → K) → (K → ℕ) → X → ℕ → List X → List X → Added → Type 0
 Appends key rank entry used before after r =
-    used < length before → All (λ e. rank (key e) < rank (key entry)) (take used before) →
+    used < length before → AllByRecursion (λ e. rank (key e) < rank (key entry)) (take used before) →
     (r ≡ added.Added) × (after ≡ slice_set before used entry)
 
 -- how many entries are in use after adding

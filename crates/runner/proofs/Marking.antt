@@ -1,6 +1,6 @@
 -- The marks that the runner has put into its roll.
 use Rattle.std.proofs.Common.{◌≡◌, ℕ, ◌+◌, ◌<◌, length, take, set, sym, ap, ◌∙◌, subst, arith}
-use Rattle.std.specs.List.{AllByRecursion as All}
+use Rattle.std.specs.List.{AllByRecursion}
 use Rattle.std.proofs.ByRecursion.{All-push, All-weaker}
 use Rattle.std.proofs.lemmas.List.{take_more_set}
 use Rattle.roll.specs.Views.{in_use, slots}
@@ -13,7 +13,7 @@ use Rattle.runner.specs.declared.turn.Cursor.{Cursor}
 -- no mark is in use before the first step
 pub marked_start : (marks : Roll StepMark) → marks.used ≡ 0 → Marked (record { state = New; at = 0; step = 0 }) marks
 marked_start marks none =
-    record { counted = none; before = subst (λ (k : ℕ). All (λ (m : StepMark). m.place < 0) (take k (slots marks))) (sym none) tt }
+    record { counted = none; before = subst (λ (k : ℕ). AllByRecursion (λ (m : StepMark). m.place < 0) (take k (slots marks))) (sym none) tt }
 
 -- one more mark, of the step at the cursor
 pub marked_more : (c c' : Cursor) (marks marks' : Roll StepMark) (m : StepMark)
@@ -23,7 +23,7 @@ marked_more c c' marks marks' m w room at past step used written =
     record {
       counted = used ∙ ap (λ (k : ℕ). k + 1) w.counted ∙ sym step;
       before =
-          subst (All (λ (n : StepMark). n.place < c'.at))
+          subst (AllByRecursion (λ (n : StepMark). n.place < c'.at))
           (sym (take_more_set (slots marks) marks.used m room) ∙ (λ i. take (sym used i) (sym written i)))
           (All-push (λ (n : StepMark). n.place < c'.at) (in_use marks) m
           (All-weaker (λ (n : StepMark). n.place < c.at) (λ (n : StepMark). n.place < c'.at) (λ n h. omega arith) (in_use marks) w.before) (omega arith));

@@ -1,6 +1,6 @@
 -- One turn of the runner.
 use Rattle.std.specs.Prelude.{◌≡◌, ℕ, ◌+◌, ◌<◌, Bool, true, false, List, length, Ok, Err, Result, nat_lt, slice_set}
-use Rattle.std.specs.List.{AllByRecursion as All}
+use Rattle.std.specs.List.{AllByRecursion}
 use Rattle.domain.specs.Told.{Told}
 use Rattle.domain.specs.declared.refusal.Refusal.TheVariants.{Truncated, Room}
 use Rattle.keeper.specs.declared.fault.KeeperFault.{KeeperFault}
@@ -22,7 +22,7 @@ use Rattle.runner.specs.declared.turn.Cursor.{Cursor}
 -- the marks in use are as many as the steps before the cursor, and of earlier places
 pub record Marked (c : Cursor) (marks : Roll StepMark) : Type 0 where
   pub counted : marks.used ≡ c.step
-  pub before : All (λ (m : StepMark). m.place < c.at) (in_use marks)
+  pub before : AllByRecursion (λ (m : StepMark). m.place < c.at) (in_use marks)
 
 -- the keeper's answer is marked, or its fault stops the run
 abbrev pub Marks : Cursor → Next → Result Bool KeeperFault → List StepMark → List StepMark → Result Cursor RunnerFault → Type 0
