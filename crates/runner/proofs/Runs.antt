@@ -253,6 +253,12 @@ pub runs_too_long : (capacity scratch : ℕ) (sheet : List ℕ) (groups : ℕ) (
 runs_too_long capacity scratch sheet groups d marks h =
     record { written = []; played = rw (lt-ltb 65535 (length sheet) h) breaks; marked = refl }
 
+-- and what says so of the fault that is given back
+pub long_sheet_ran : (capacity scratch : ℕ) (sheet : List ℕ) (groups : ℕ) (d : Told) (marks : List StepMark) (f : SheetFault)
+    → 65535 < length sheet → f ≡ fault_at (Reader (record { refusal = Length; place = 0 })) 0 0
+    → Ran capacity scratch sheet groups d d marks marks (Err f)
+long_sheet_ran capacity scratch sheet groups d marks f h e = rw e (runs_too_long capacity scratch sheet groups d marks h)
+
 -- a run over the slots of a roll is one over the list that was lent to it
 pub ran_over : {capacity scratch : ℕ} {sheet : List ℕ} {groups : ℕ} {d e : Told} {marks marks' list list' : List StepMark} {r : Result ℕ SheetFault}
     → marks ≡ list → marks' ≡ list' → Ran capacity scratch sheet groups d e marks marks' r → Ran capacity scratch sheet groups d e list list' r

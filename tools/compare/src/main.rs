@@ -19,7 +19,7 @@ use tally::Tally;
 const USAGE: &str = "compare [SEED [SHEETS [FOLDER]]]
   SEED     the stream of generated sheets (default 1)
   SHEETS   how many are generated (default 3000)
-  FOLDER   where run_table and run_list are (default target/bin)";
+  FOLDER   the crates, whose programs lie in NAME/out/NAME (default crates)";
 
 struct Options {
     seed: u64,
@@ -33,13 +33,13 @@ fn options() -> Option<Options> {
     Some(Options {
         seed: word(0, "1").parse().ok()?,
         sheets: word(1, "3000").parse().ok()?,
-        folder: word(2, "target/bin"),
+        folder: word(2, "crates"),
     })
 }
 
 fn compare(options: &Options) -> io::Result<bool> {
     let program = |name: &str, capacity| Program {
-        path: format!("{}/{name}", options.folder).into(),
+        path: format!("{}/{name}/out/{name}", options.folder).into(),
         arguments: Vec::new(),
         capacity,
     };
@@ -85,7 +85,7 @@ fn main() -> ExitCode {
         Ok(true) => ExitCode::SUCCESS,
         Ok(false) => ExitCode::FAILURE,
         Err(error) => {
-            eprintln!("compare: {error} (run `rt check run_table run_list` first, from the repository's top)");
+            eprintln!("compare: {error} (run `rt run </dev/null` in crates/run_table and in crates/run_list first)");
             ExitCode::from(2)
         }
     }

@@ -158,11 +158,11 @@ fn run(program: &[String], sheet: &Path, output: &Path) -> io::Result<Cost> {
 fn main() -> ExitCode {
     let folder = std::env::args()
         .nth(1)
-        .unwrap_or_else(|| "target/bin".into());
+        .unwrap_or_else(|| "crates".into());
     match compare(&folder) {
         Ok(()) => ExitCode::SUCCESS,
         Err(error) => {
-            eprintln!("bench: {error} (run `rt check run_table run_list` first, from the repository's top)");
+            eprintln!("bench: {error} (run `rt run </dev/null` in crates/run_table and in crates/run_list first)");
             ExitCode::FAILURE
         }
     }
@@ -178,7 +178,7 @@ fn compare(folder: &str) -> io::Result<()> {
         let sheet = scratch.join("sheet");
         std::fs::write(&sheet, &bytes)?;
         for (keeper, capacity) in [("table", "4095"), ("list", "64")] {
-            let ours = vec![format!("{folder}/run_{keeper}")];
+            let ours = vec![format!("{folder}/run_{keeper}/out/run_{keeper}")];
             let twin = vec![tool("twin"), keeper.into()];
             let reference = vec![tool("reference"), capacity.into()];
             measure(&scratch, &sheet, &[ours, twin, reference])?;
