@@ -7,6 +7,7 @@ ghost use Rattle.domain.specs.Told.{Ground, Share};
 ghost use Rattle.std.specs.Prelude.{Decides};
 
 use crate::Description;
+use domain::count::check_position;
 use domain::mask;
 use domain::refusal::Refusal;
 use rules::lent::reach_table;
@@ -16,9 +17,7 @@ impl Description {
     pub fn is_ground(&self, p: u8) -> Result<bool, Refusal>
         ensures { Gives (first_of (ask_tests (told self.now).n p)) result (λ yes. Decides yes (Ground (told self.now) p)) }
     {
-        if p >= self.positions {
-            return Err(Refusal::Position);
-        }
+        check_position(self.positions, p)?;
         let reached = reach_table(&self.table, self.positions, 1 << p)?;
         Ok(reached == 0)
     }
@@ -26,18 +25,14 @@ impl Description {
     pub fn is_free(&self, p: u8) -> Result<bool, Refusal>
         ensures { Gives (first_of (ask_tests (told self.now).n p)) result (λ yes. Decides yes (In p (told self.now).free)) }
     {
-        if p >= self.positions {
-            return Err(Refusal::Position);
-        }
+        check_position(self.positions, p)?;
         Ok(mask::has(self.free, p))
     }
 
     pub fn is_linear(&self, p: u8) -> Result<bool, Refusal>
         ensures { Gives (first_of (ask_tests (told self.now).n p)) result (λ yes. Decides yes (In p (told self.now).linear)) }
     {
-        if p >= self.positions {
-            return Err(Refusal::Position);
-        }
+        check_position(self.positions, p)?;
         Ok(mask::has(self.linear, p))
     }
 
@@ -45,9 +40,8 @@ impl Description {
     pub fn share(&self, p: u8, q: u8) -> Result<bool, Refusal>
         ensures { Gives (first_of (pair_tests (told self.now).n p q)) result (λ yes. Decides yes (Share (told self.now) p q)) }
     {
-        if p >= self.positions || q >= self.positions {
-            return Err(Refusal::Position);
-        }
+        check_position(self.positions, p)?;
+        check_position(self.positions, q)?;
         let reached = reach_table(&self.table, self.positions, 1 << p)?;
         Ok(mask::has(reached, q))
     }

@@ -1,9 +1,19 @@
 // Small sheets worked out by hand.
 use crate::Description;
+use domain::listing::Listing;
 use domain::refusal::Refusal;
 use domain::term::Term;
 use std::process::Abort;
 use std::test::Fail;
+
+// A description that is handed over.
+fn listing(free: u16, linear: u16, groups: &[u16]) -> Listing<'_> {
+    Listing {
+        free,
+        linear,
+        groups,
+    }
+}
 
 fn compound(held: u16) -> Term {
     Term {
@@ -57,7 +67,7 @@ fn binds_what_shares(rt: HostRuntime) -> Result<(), Fail> {
 fn joins_and_forgets(rt: HostRuntime) -> Result<(), Fail> {
     let mut scratch = [0; 512];
     let d = Description::new(3)?;
-    let e = d.join(6, 7, &[3, 4], &mut scratch)?;
+    let e = d.join(listing(6, 7, &[3, 4]), &mut scratch)?;
     tells(&rt, &e, 1 << 1 | 1 << 2 | 1 << 3 | 1 << 4, 6, 7);
     let f = e.forget(2, &mut scratch)?;
     tells(&rt, &f, 1 << 1 | 1 << 2 | 1 << 4, 6, 7);
@@ -75,8 +85,18 @@ fn refuses(rt: HostRuntime) -> Result<(), Fail> {
     assert!(rt; refused(d.bind(4, bare, &mut [0; 512]), Refusal::Position));
     assert!(rt; refused(d.bind(1, bare, &mut [0; 512]), Refusal::Itself));
     assert!(rt; refused(d.bind(0, bare, &mut [0; 511]), Refusal::Room));
-    assert!(rt; refused(d.join(15, 15, &[2, 1], &mut [0; 512]), Refusal::Groups));
-    assert!(rt; refused(d.join(15, 15, &[1, 2], &mut [0; 512]), Refusal::Marks));
+    assert!(rt;
+        refused(
+            d.join(listing(15, 15, &[2, 1]), &mut [0; 512]),
+            Refusal::Groups
+        )
+    );
+    assert!(rt;
+        refused(
+            d.join(listing(15, 15, &[1, 2]), &mut [0; 512]),
+            Refusal::Marks
+        )
+    );
     assert!(rt; refused(d.forget(16, &mut [0; 512]), Refusal::Position));
     Ok(())
 }

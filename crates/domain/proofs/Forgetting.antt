@@ -9,9 +9,9 @@ use Rattle.domain.specs.Forgetting.{Stripped, Renewed, Left, Supplied, Forgotten
 use Rattle.domain.specs.Masks.{In, Within, Meets}
 use Rattle.domain.specs.Tables.{holds_bit, told_of}
 use Rattle.domain.specs.Told.{Told, Group, Ground, Lawful}
-use Rattle.domain.proofs.Bits.{in_or_not, in_first, in_second, in_both, in_either, in_left, in_right, in_single, single_in, in_lacking, lacking_in, in_pos, in_below, below_lt, same_mask, within_le, one_position}
+use Rattle.domain.proofs.Bits.{in_or_not, in_first, in_second, in_both, in_either, in_left, in_right, in_single, single_in, in_lacking, lacking_in, in_pos, in_below, below_lt, nothing_within, same_mask, within_le, one_position}
 use Rattle.domain.proofs.Laws.{group_of, of_group}
-use Rattle.domain.proofs.Walk.{NoneAbove}
+use Rattle.domain.proofs.Descending.{SomeSubset}
 
 -- a mask apart from m is left exactly where some positions of m make it a group
 pub supplied_left : (d : Told) (m u : ℕ) → 0 < u → (Meets u m → ⊥) → Supplied (Group d) m u → Left d m u
@@ -73,17 +73,18 @@ decides_renewed d m u meet = (λ e. inr (single (one_position u (eqb-true _ 1 e)
     one (inl s) = absurd ((s.only meet.place meet.left).1 meet.right)
     one (inr r) = rw r.only (eq-eqb _ 1 (single_ones r.place))
 
--- the walk over the positions of m that may make u a group
+-- u itself is a group, or is one with some positions of m
 pub decides_supplied :
-    (G : ℕ → Type 0) (m u : ℕ) (r : Bool) → NoneAbove (λ s. G (bit_or u s)) m 0 → Decides r (G u) → Decides r (Supplied G m u)
-decides_supplied G m u r none =
-    Decides-like r
-    (λ g. record { part = 0; inside = none.within; told = rw (or_zero_r u) g })
-    (λ s. last s.part s.inside s.told)
+    (G : ℕ → Type 0) (m u : ℕ) (r : Bool) → (G u → ⊥) → Decides r (SomeSubset (λ s. G (bit_or u s)) m) → Decides r (Supplied G m u)
+decides_supplied G m u r not =
+    Decides-like r (λ f. record { part = f.part; inside = f.inside; told = f.holds }) (λ s. beside s.part s.inside s.told)
   where
-    last : (k : ℕ) → Within k m → G (bit_or u k) → G u
-    last zero w g = rw (or_zero_r u) at g
-    last (suc k) w g = absurd (none.none (suc k) g w (omega arith))
+    beside : (k : ℕ) → Within k m → G (bit_or u k) → SomeSubset (λ s. G (bit_or u s)) m
+    beside zero w g = absurd (not (rw (or_zero_r u) at g))
+    beside (suc k) w g = record { part = suc k; some = omega arith; inside = w; holds = g }
+
+pub supplied_alone : (G : ℕ → Type 0) (m u : ℕ) → G u → Supplied G m u
+supplied_alone G m u g = record { part = 0; inside = nothing_within m; told = rw (or_zero_r u) g }
 
 -- what is left of u depends only on the groups around it
 pub left_local : (d e : Told) (m u : ℕ) → ((g : ℕ) → u ≤ g → Group d g → Group e g) → Left d m u → Left e m u

@@ -1,16 +1,17 @@
 -- A join from its parts, and that it keeps the rules.
-use Rattle.std.proofs.Common.{◌≡◌, ℕ, ◌-◌, ◌/◌, ◌^◌, ◌<◌, ◌≤◌, true, false, not, ◌||◌, ltb, ◌⊎◌, List, [], ◌∷◌, length, None, refl, inl, inr, arith}
-use lib.Bits.{bit_and}
-use Rattle.std.proofs.lemmas.Bool.{lt-ltb, le-ltb, and_right, and_parts, or_parts, not-true, not-false, ltb-true, ltb-false, leb-false, eqb-true}
+use Rattle.std.proofs.Common.{◌≡◌, ℕ, ◌-◌, ◌/◌, ◌^◌, ◌<◌, ◌≤◌, true, false, not, ◌||◌, ltb, ◌⊎◌, List, [], ◌∷◌, length, None, sym, refl, ◌∙◌, inl, inr, arith}
+use lib.Bits.{bit_and, bit_or, or_zero_r}
+use Rattle.std.specs.List.{fold}
+use Rattle.std.proofs.lemmas.Bool.{and_parts, or_parts, not-true, not-false, ltb-true, ltb-false, leb-false, eqb-true}
 use Rattle.domain.specs.Coverage.{Listed}
 use Rattle.domain.specs.Coverage.Listed.{here, there}
 use Rattle.domain.specs.Joining.{Joined, LawfulJoin}
 use Rattle.domain.specs.Masks.{In}
 use Rattle.domain.specs.Refusals.{first_of}
-use Rattle.domain.specs.Requests.{ascend, held_by, reaches, contained, without, join_tests}
+use Rattle.domain.specs.Requests.{ascend, held_by, ill_marks, reaches, contained, without, join_tests}
 use Rattle.domain.specs.Tables.{holds_bit, told_of}
 use Rattle.domain.specs.Told.{Told, Group, Ground, Lawful}
-use Rattle.domain.proofs.Bits.{and_within, in_first, in_second, in_both, in_either, none_in, in_lacking, in_all, in_below, below_lt}
+use Rattle.domain.proofs.Bits.{and_within, in_first, in_second, in_both, in_either, none_in, in_lacking, in_all, in_below, below_lt, or_assoc}
 use Rattle.domain.proofs.Laws.{group_of, of_group}
 use Rattle.domain.proofs.Refusing.{passed}
 use Rattle.domain.proofs.Tables.{room_for}
@@ -71,18 +72,6 @@ join_lawful {d} {e} {free} {linear} {hs} l k j =
           none = λ h t. g.none h (j.groups_made h (inl t));
         }
 
--- the tests of a list, group by group
-
-module _ (n last g : ℕ) (gs : List ℕ) where
-  pub ascend_more : last < g → reaches n g ≡ false → ascend n last (g ∷ gs) ≡ ascend n g gs
-  ascend_more h e = rw (lt-ltb last g h, e)
-
-  pub ascend_low : g ≤ last → ascend n last (g ∷ gs) ≡ false
-  ascend_low h = rw (le-ltb last g h)
-
-  pub ascend_high : reaches n g ≡ true → ascend n last (g ∷ gs) ≡ false
-  ascend_high e = and_right (ltb last g) _ (rw e)
-
 -- what the tests of a join let through
 
 pub ascend_range : (n last : ℕ) (hs : List ℕ) → ascend n last hs ≡ true → (g : ℕ) → Listed g hs → (last < g) × (g < 2 ^ n)
@@ -106,27 +95,35 @@ held_listed (h ∷ hs) p i = go (in_either h (held_by hs) i) (held_listed hs p)
     go (inl i) rest = (h, here, i)
     go (inr i) rest = let r = rest i in (r.0, there r.1, r.2)
 
+-- the union of a list, taken from the left
+pub fold_held : (a : ℕ) (hs : List ℕ) → fold (λ m h. bit_or m h) a hs ≡ bit_or a (held_by hs)
+fold_held a [] = sym (or_zero_r a)
+fold_held a (h ∷ hs) = fold_held (bit_or a h) hs ∙ or_assoc a h (held_by hs)
+
 within_contained : (a b : ℕ) → contained a b ≡ true → (p : ℕ) → In p a → In p b
 within_contained a b h p i = (and_within a b (eqb-true (bit_and a b) a h)).each p i
 
--- they are a description of their own, and there is room
+-- they are a description of their own
+pub join_lawful_given : (n f l : ℕ) (hs : List ℕ) → ascend n 0 hs ≡ true → ill_marks n f l hs ≡ false → LawfulJoin n f l hs
+join_lawful_given n f l hs ascends ill =
+    let m = or_parts (reaches n f || reaches n l) _ ill in
+    let r = or_parts (reaches n f) _ m.0 in
+    let k = and_parts (contained f l) _ (not-false _ m.1) in
+    let e = and_parts (contained (without (2 ^ n - 1) (held_by hs)) l) _ k.1 in
+    record {
+      in_range = ascend_range n 0 hs ascends;
+      linear_in_range = leb-false (2 ^ n) l r.1;
+      free_is_linear = within_contained f l k.0;
+      ground_is_linear = λ p i none. within_contained (without (2 ^ n - 1) (held_by hs)) l e.0 p
+          (in_lacking (in_all p n i) (λ q. let w = held_listed hs p q in none w.0 w.1 w.2));
+      free_is_not_ground = λ p i none.
+          let w = held_listed hs p (within_contained f (held_by hs) e.1 p i) in none w.0 w.1 w.2;
+    }
+
+-- and there is room
 pub join_allowed : (n f l : ℕ) (hs : List ℕ) (scratch : ℕ) → None ≡ first_of (join_tests n f l hs scratch) → LawfulJoin n f l hs × (512 ≤ scratch)
 join_allowed n f l hs scratch h =
     let a = passed _ _ _ h in
     let b = passed _ _ _ a.1 in
     let c = passed _ _ _ b.1 in
-    let m = or_parts (reaches n f || reaches n l) _ b.0 in
-    let r = or_parts (reaches n f) _ m.0 in
-    let k = and_parts (contained f l) _ (not-false _ m.1) in
-    let e = and_parts (contained (without (2 ^ n - 1) (held_by hs)) l) _ k.1 in (
-      record {
-        in_range = ascend_range n 0 hs (not-false _ a.0);
-        linear_in_range = leb-false (2 ^ n) l r.1;
-        free_is_linear = within_contained f l k.0;
-        ground_is_linear = λ p i none. within_contained (without (2 ^ n - 1) (held_by hs)) l e.0 p
-            (in_lacking (in_all p n i) (λ q. let w = held_listed hs p q in none w.0 w.1 w.2));
-        free_is_not_ground = λ p i none.
-            let w = held_listed hs p (within_contained f (held_by hs) e.1 p i) in none w.0 w.1 w.2;
-      },
-      ltb-false scratch 512 c.0,
-    )
+    (join_lawful_given n f l hs (not-false _ a.0) b.0, ltb-false scratch 512 c.0)

@@ -4,6 +4,8 @@ pub mod Laws
 pub mod Deciding
 pub mod Opening
 pub mod Walk
+pub mod Descending
+pub mod Filling
 pub mod Hull
 pub mod Loading
 pub mod Refusing

@@ -27,9 +27,6 @@ pub record Loaded (gs s t : List ℕ) (i : ℕ) : Type 0 where
   pub grown : (g : ℕ) → holds_bit s g ≡ true → holds_bit t g ≡ true
   pub only : (g : ℕ) → holds_bit t g ≡ true → (holds_bit s g ≡ true) ⊎ Listed g gs
 
-pub loaded_none : (gs s : List ℕ) → Loaded gs s s 0
-loaded_none gs s = record { put = λ j h. absurd (omega arith); grown = λ g e. e; only = λ g e. inl e }
-
 module _ (gs s t u : List ℕ) (i : ℕ) (long : length t ≡ length s) (inside : i < length gs) (before : Loaded gs s t i)
     (at : get_or gs i 0 / 8 < length t → holds_bit u (get_or gs i 0) ≡ true)
     (others : (h : ℕ) → h ≢ get_or gs i 0 → holds_bit u h ≡ holds_bit t h)

@@ -1,5 +1,5 @@
 -- One bit of a byte, and of a table of bytes.
-use Rattle.std.proofs.Common.{◌≡◌, ℕ, ◌+◌, ◌/◌, ◌%◌, ◌^◌, ◌<◌, ◌≤◌, Bool, true, false, cond, eqb, ◌≢◌, ◌⊎◌, List, length, get_or, set, Decides, refl, ap, ◌∙◌, inl, inr, arith, pow_pos, pow_mono}
+use Rattle.std.proofs.Common.{◌≡◌, ℕ, ◌+◌, ◌/◌, ◌%◌, ◌^◌, ◌<◌, ◌≤◌, Bool, true, false, cond, eqb, ◌≢◌, ◌⊎◌, List, length, get_or, set, Decides, ap, ◌∙◌, inl, inr, arith, pow_pos, pow_mono}
 use native.Mathlib.Nat.{div-eq_of_lt}
 use lib.Bits.{bit_and, bit_or, bit_xor, and_mask}
 use Rattle.std.proofs.lemmas.List.{get_or-set_same, get_or-set_other, get_or_past}
@@ -67,9 +67,6 @@ pub record Written (P : ℕ → Type 0) (old now : List ℕ) (k top : ℕ) : Typ
   pub kept : (g : ℕ) → g < k → holds_bit now g ≡ holds_bit old g
   pub done : (g : ℕ) → k ≤ g → g < top → Decides (holds_bit now g) (P g)
 
-pub written_none : (P : ℕ → Type 0) (old : List ℕ) (top : ℕ) → Written P old old top top
-written_none P old top = record { kept = λ g h. refl; done = λ g h k. absurd (omega arith) }
-
 pub written_more :
     (P : ℕ → Type 0) (old s t : List ℕ) (k j top : ℕ) (on : Bool) → k ≡ j + 1 → Written P old s k top
     → Decides on (P j) → holds_bit t j ≡ on → ((h : ℕ) → h ≢ j → holds_bit t h ≡ holds_bit s h)
@@ -90,9 +87,6 @@ written_more P old s t k j top on next before here at others =
 pub record WrittenUp (P : ℕ → Type 0) (old now : List ℕ) (k : ℕ) : Type 0 where
   pub kept : (g : ℕ) → k ≤ g → holds_bit now g ≡ holds_bit old g
   pub done : (g : ℕ) → 0 < g → g < k → Decides (holds_bit now g) (P g)
-
-pub written_up_none : (P : ℕ → Type 0) (old : List ℕ) → WrittenUp P old old 1
-written_up_none P old = record { kept = λ g h. refl; done = λ g h k. absurd (omega arith) }
 
 pub written_up_more :
     (P : ℕ → Type 0) (old s t : List ℕ) (k : ℕ) (on : Bool) → WrittenUp P old s k

@@ -12,3 +12,4 @@ pub mod Refusals
 pub mod Requests
 pub mod Leaving
 pub mod Filling
+pub mod Subsets

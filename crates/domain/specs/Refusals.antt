@@ -1,7 +1,7 @@
 -- The table of refusals: each with its number, and with its layer where one layer alone gives it.
-use Rattle.std.specs.Prelude.{ℕ, Bool, true, false, List, [], ◌∷◌, Some, None, Option}
+use Rattle.std.specs.Prelude.{ℕ, Bool, true, false, List, [], ◌∷◌, Some, None, codes, Option}
 use Rattle.domain.specs.declared.refusal.Layer.{Layer}
-use Rattle.domain.specs.declared.refusal.Layer.TheVariants.{Reader, Keeper}
+use Rattle.domain.specs.declared.refusal.Layer.TheVariants.{Reader, Runner, Keeper}
 use Rattle.domain.specs.declared.refusal.Refusal.{Refusal}
 use Rattle.domain.specs.declared.refusal.Refusal.TheVariants.{Truncated, Kind, Length, Order, Count, Position, Itself, Depth, Groups, Marks, Letter, Capacity, Room}
 
@@ -34,6 +34,12 @@ layer_of Marks = Some Keeper
 layer_of Letter = Some Reader
 layer_of Capacity = Some Keeper
 layer_of Room = None
+
+-- the name of a layer that a line prints
+abbrev pub layer_name : Layer → List ℕ
+layer_name Reader = codes "reader"
+layer_name Runner = codes "runner"
+layer_name Keeper = codes "keeper"
 
 -- a test, and the refusal that it stands for where it is true
 abbrev pub Test : Type 0

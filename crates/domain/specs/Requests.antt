@@ -23,6 +23,10 @@ ill_term t =
 abbrev pub open_tests : ℕ → List Test
 open_tests n = (n == 0 || nat_lt 12 n, Count) ∷ []
 
+-- a table of so many bytes
+abbrev pub room_tests : ℕ → List Test
+room_tests bytes = (nat_lt bytes 512, Room) ∷ []
+
 abbrev pub ask_tests : ℕ → ℕ → List Test
 ask_tests n p = (nat_le n p, Position) ∷ []
 

@@ -2,8 +2,11 @@
 #![tactic(auto)]
 
 pub mod case;
+pub mod count;
+pub mod listing;
 pub mod marks;
 pub mod mask;
 pub mod refusal;
+pub mod subsets;
 pub mod table;
 pub mod term;

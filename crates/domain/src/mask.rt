@@ -1,7 +1,8 @@
 // Sets of positions as masks: position p is the bit p.
 ghost use Rattle.domain.specs.Leaving.{Without};
 ghost use Rattle.domain.specs.Masks.{In, Meets};
-ghost use Rattle.std.specs.Prelude.{Decides};
+ghost use Rattle.domain.specs.Requests.{contained};
+ghost use Rattle.std.specs.Prelude.{◌≡◌, Decides};
 
 // Whether the mask holds the position. None has one of 16 or more.
 pub fn has(mask: u16, p: u8) -> bool
@@ -17,6 +18,13 @@ pub fn meets(a: u16, b: u16) -> bool
     ensures { Decides result (Meets a b) }
 {
     a & b != 0
+}
+
+// Whether every position of a is one of b.
+pub fn within(a: u16, b: u16) -> bool
+    ensures { result ≡ contained a b }
+{
+    a & b == a
 }
 
 // The positions of `mask`, without those of `lost` where `drops` says so.

@@ -1,6 +1,8 @@
 // The fixed table of refusals. Every call and every sheet ends in its answer or in one of these.
-ghost use Rattle.std.specs.Prelude.{◌≡◌};
-ghost use Rattle.domain.specs.Refusals.{number_of, layer_of};
+ghost use Rattle.std.specs.Prelude.{◌≡◌, Some};
+ghost use Rattle.domain.specs.Refusals.{number_of, layer_of, layer_name};
+
+use std::fmt;
 
 #[derive(Clone, Copy, PartialEq, Eq, Debug)]
 pub enum Refusal {
@@ -79,5 +81,18 @@ impl Refusal {
             | Refusal::Capacity => { Some(Layer::Keeper) }
             Refusal::Order | Refusal::Position | Refusal::Room => None,
         }
+    }
+}
+
+// The name that a line prints.
+impl fmt::Display for Layer {
+    ghost output = { λ layer. Some (layer_name layer) };
+
+    fn fmt<W: fmt::Write>(&self, f: &mut fmt::Formatter<W>) -> fmt::Result {
+        f.write_str(match self {
+            Layer::Reader => "reader",
+            Layer::Runner => "runner",
+            Layer::Keeper => "keeper",
+        })
     }
 }

@@ -6,7 +6,7 @@ ghost use Rattle.domain.specs.Tables.{holds_bit, in_range, told_of};
 pub fn holds(table: &[u8], g: u16) -> bool
     ensures { result ≡ holds_bit table.now g }
 {
-    let place = (g / 8) as usize;
+    let place = usize::from(g / 8);
     if place >= table.len() {
         return false;
     }
@@ -39,7 +39,7 @@ pub fn put(table: &mut [u8], g: u16, on: bool)
     ensures others { (h : ℕ) → h ≢ g → holds_bit table.new h ≡ holds_bit table.old h }
     ensures past { length table.old ≤ g / 8 → table.new ≡ table.old }
 {
-    let place = (g / 8) as usize;
+    let place = usize::from(g / 8);
     if place < table.len() {
         table[place] = with_bit(table[place], (g % 8) as u8, on);
     }

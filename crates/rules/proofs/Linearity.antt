@@ -1,7 +1,10 @@
 -- Whether a term is free or linear: what the tests on masks decide.
-use Rattle.std.proofs.Common.{◌≡◌, ℕ, ◌+◌, ◌^◌, ◌<◌, Bool, true, false, not, eqb, ◌≢◌, ◌⊎◌, Decides, sym, ◌∙◌, subst, inl, inr, arith}
+use Rattle.std.proofs.Common.{◌≡◌, ℕ, ◌^◌, ◌<◌, Bool, true, false, not, eqb, ◌≢◌, ◌⊎◌, Decides, sym, ◌∙◌, subst, inl, inr, length, refl, zero-add, arith}
 use lib.Count.{ones}
-use Rattle.std.proofs.lemmas.Bool.{cases_Bool, cases_eq, not-true, not_from_false, eq-eqb, eqb-true, false≢true}
+use Rattle.std.specs.Bool.{MatchBool}
+use Rattle.std.specs.List.{AllWithin, HoldsAt, range_with_len}
+use Rattle.std.proofs.lemmas.List.FromFn.{length-range_with_len, get_or-range_with_len}
+use Rattle.std.proofs.lemmas.Bool.{cases_Bool, not-true, not_from_false, eq-eqb, eqb-true, false≢true}
 use Rattle.std.proofs.lemmas.Bool.Decides.{Decides-like, not_from_Decides}
 use Rattle.domain.specs.Masks.{In, Meets}
 use Rattle.domain.specs.Told.{Told, Ground, Share}
@@ -20,10 +23,6 @@ decides_free_term d t r bare single =
     free m s =
         let e : m.place ≡ s.0 = single_in (subst (In m.place) s.1 m.left) in
         record { bare = bare; place = s.0; only = s.1; free = subst (λ q. In q d.free) e m.right }
-
--- no test at all where the term is not bare
-pub decides_not_bare : (d : Told) (t : Term) → t.bare ≡ false → Decides t.bare (FreeTerm d t)
-decides_not_bare d t e = (λ f. absurd (false≢true (sym e ∙ f)), λ f. f.bare)
 
 -- the positions beside p that p shares with
 module _ (d : Told) (t : Term) (p near others : ℕ) {alone : ℕ} (is : alone ≡ 2 ^ p) (reach : Reach d alone near)
@@ -65,16 +64,25 @@ decides_or_once d t p near r h reach ne test = Decides-like r inr (λ s. once s)
     once (inl g) = absurd (ne (eqb-true near 0 ((decides_ground d p near h reach).1 g)))
     once (inr o) = o
 
--- the loop over the positions of the term: those below k are as they should be
-abbrev pub LinearBelow : Told → Term → ℕ → Type 0
-LinearBelow d t k = (q : ℕ) → q < k → In q t.held → Ground d q ⊎ Once d t q
+-- the positions of the term are each asked
 
-pub linear_more : (d : Told) (t : Term) (k : ℕ) → LinearBelow d t k → (In k t.held → Ground d k ⊎ Once d t k) → LinearBelow d t (k + 1)
-linear_more d t k before here q h i = go (cases_eq q k)
+abbrev pub Passes : Told → Term → ℕ → Type 0
+Passes d t p = In p t.held → Ground d p ⊎ Once d t p
+
+pub record Fails (d : Told) (t : Term) (p : ℕ) : Type 0 where
+  pub held : In p t.held
+  pub neither : Ground d p ⊎ Once d t p → ⊥
+
+pub decides_linear :
+    (d : Told) (t : Term) (n : ℕ) (r : Bool) → t.held < 2 ^ n
+    → MatchBool r (AllWithin (Passes d t) (range_with_len 0 n) 0 (length (range_with_len 0 n)))
+    ((k : ℕ) × (k < length (range_with_len 0 n)) × HoldsAt (Fails d t) (range_with_len 0 n) k)
+    → Decides r (LinearTerm d t)
+decides_linear d t n true small all = (λ e. record { each = λ p i. each p i (in_below n i small) }, λ l. refl)
   where
-    go : (q ≡ k) ⊎ (q ≡ k → ⊥) → Ground d q ⊎ Once d t q
-    go (inl e) = rw e (here (rw e at i))
-    go (inr ne) = before q (omega (arith, ne)) i
-
-pub linear_all : (d : Told) (t : Term) (n : ℕ) → t.held < 2 ^ n → LinearBelow d t n → LinearTerm d t
-linear_all d t n h below = record { each = λ p i. below p (in_below n i h) i }
+    each : (p : ℕ) → In p t.held → p < n → Ground d p ⊎ Once d t p
+    each p i h =
+        subst (Passes d t) (get_or-range_with_len 0 n p 0 h ∙ zero-add p)
+        (all p 0 (omega arith) (omega (arith, length-range_with_len 0 n))) i
+decides_linear d t n false small found =
+    (λ e. absurd (false≢true e), λ l. let f = found.2 0 in absurd (f.neither (l.each _ f.held)))

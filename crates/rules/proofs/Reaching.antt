@@ -1,37 +1,77 @@
--- The loop that unites all groups that meet a mask: its start, its turns, its end.
-use Rattle.std.proofs.Common.{◌≡◌, ℕ, ◌+◌, ◌<◌, ◌⊎◌, inl, inr, arith}
-use lib.Bits.{bit_or}
-use Rattle.std.proofs.lemmas.Bool.{cases_eq}
-use Rattle.domain.specs.Masks.{In}
-use Rattle.domain.specs.Groups.{TGroup}
-use Rattle.domain.specs.Told.{Told, Group}
+-- The union of all groups that meet a mask.
+use Rattle.std.proofs.Common.{◌≡◌, ℕ, zero, suc, ◌+◌, ◌-◌, ◌^◌, ◌<◌, ◌≤◌, Bool, true, false, not, ◌&&◌, eqb, ◌⊎◌, List, ◌∷◌, filter, sym, refl, subst, inl, inr, arith, pow_pos}
+use lib.Bits.{bit_and, bit_or}
+use Rattle.std.specs.List.{fold, range_with_len}
+use Rattle.std.proofs.lemmas.Bool.{and_parts, cases_eq, false≢true}
+use Rattle.domain.specs.Coverage.{Listed}
+use Rattle.domain.specs.Coverage.Listed.{here, there}
+use Rattle.domain.specs.Masks.{In, Meets}
+use Rattle.domain.specs.Requests.{held_by}
+use Rattle.domain.specs.Tables.{holds_bit, told_of}
 use Rattle.domain.specs.Binding.{InT}
-use Rattle.rules.specs.Reaching.{Reach, ReachBelow}
-use Rattle.domain.proofs.Bits.{none_in, in_left, in_right, in_either}
+use Rattle.rules.specs.Reaching.{Reach}
+use Rattle.domain.proofs.Deciding.{decides_meets}
+use Rattle.domain.proofs.Descending.{listed_filter, filter_listed}
+use Rattle.domain.proofs.Filling.{held_holds}
+use Rattle.domain.proofs.Joining.{fold_held, held_listed}
+use Rattle.domain.proofs.Laws.{group_of, of_group}
 
-module _ (d : Told) (v : ℕ) where
-  -- no group is 0
-  pub reach_none : ((g : ℕ) → Group d g → 0 < g) → ReachBelow d v 1 0
-  reach_none pos = record { made = λ p i. absurd (none_in i); all = λ p g h m i. absurd (omega (arith, pos g m.group)) }
+listed_range : {g : ℕ} (a n : ℕ) → Listed g (range_with_len a n) → (a ≤ g) × (g < a + n)
+listed_range a zero l = elim l [ ]
+listed_range a (suc n) here = (omega arith, omega arith)
+listed_range a (suc n) (there l) = let r = listed_range (a + 1) n l in (omega (arith, r.0), omega (arith, r.1))
 
-  pub reach_skip : (k r : ℕ) → ReachBelow d v k r → (TGroup (Group d) v k → ⊥) → ReachBelow d v (k + 1) r
-  reach_skip k r b out = record { made = b.made; all = λ p g h m i. go p g h m i (cases_eq g k) }
-    where
-      go : (p g : ℕ) → g < k + 1 → TGroup (Group d) v g → In p g → (g ≡ k) ⊎ (g ≡ k → ⊥) → In p r
-      go p g h m i (inl e) = absurd (out (rw e at m))
-      go p g h m i (inr ne) = b.all p g (omega (arith, ne)) m i
+range_listed : {g : ℕ} (a n : ℕ) → a ≤ g → g < a + n → Listed g (range_with_len a n)
+range_listed a zero low high = absurd (omega arith)
+range_listed {g} a (suc n) low high = go (cases_eq g a) (λ l h. range_listed (a + 1) n l h)
+  where
+    go : (g ≡ a) ⊎ (g ≡ a → ⊥) → (a + 1 ≤ g → g < a + 1 + n → Listed g (range_with_len (a + 1) n)) → Listed g (range_with_len a (suc n))
+    go (inl e) rest = subst (λ m. Listed m (a ∷ range_with_len (a + 1) n)) (sym e) here
+    go (inr ne) rest = there (rest (omega (arith, ne)) (omega arith))
 
-  pub reach_more : (k r : ℕ) → ReachBelow d v k r → TGroup (Group d) v k → ReachBelow d v (k + 1) (bit_or r k)
-  reach_more k r b t =
-      record { made = λ p i. made p (in_either r k i); all = λ p g h m i. go p g h m i (cases_eq g k) }
-    where
-      made : (p : ℕ) → In p r ⊎ In p k → InT d v p
-      made p (inl i) = b.made p i
-      made p (inr i) = record { group = k; told = t; holds = i }
+-- a mask that meets v and has its bit set, as a test
+abbrev pub reached : List ℕ → ℕ → ℕ → Bool
+reached bits v g = not (eqb (bit_and g v) 0) && holds_bit bits g
 
-      go : (p g : ℕ) → g < k + 1 → TGroup (Group d) v g → In p g → (g ≡ k) ⊎ (g ≡ k → ⊥) → In p (bit_or r k)
-      go p g h m i (inl e) = in_right r (rw e at i)
-      go p g h m i (inr ne) = in_left k (b.all p g (omega (arith, ne)) m i)
+pub same_reached :
+    (bits : List ℕ) (v g : ℕ) (r : Bool) → (r ≡ true → Meets g v × (holds_bit bits g ≡ true)) → (Meets g v → holds_bit bits g ≡ true → r ≡ true)
+    → r ≡ reached bits v g
+same_reached bits v g true to from =
+    let t = to refl in sym (rw ((decides_meets g v).1 t.0) t.1)
+same_reached bits v g false to from = go (reached bits v g) refl
+  where
+    go : (t : Bool) → reached bits v g ≡ t → false ≡ t
+    go false q = refl
+    go true q =
+        let e = and_parts (not (eqb (bit_and g v) 0)) _ q in
+        absurd (false≢true (from ((decides_meets g v).0 e.0) e.1))
 
-  pub reach_all : (k r : ℕ) → ReachBelow d v k r → ((g : ℕ) → Group d g → g < k) → Reach d v r
-  reach_all k r b below = record { made = b.made; all = λ p t. b.all p t.group (below t.group t.told.group) t.told t.holds }
+module _ (n : ℕ) (bits : List ℕ) (v f l : ℕ) where
+  found : List ℕ
+  found = filter (reached bits v) (range_with_len 1 (2 ^ n - 1))
+
+  made : (p : ℕ) → In p (held_by found) → InT (told_of n bits f l) v p
+  unfolding found
+  made p i =
+      let w = held_listed found p i in
+      let k = listed_filter (reached bits v) (range_with_len 1 (2 ^ n - 1)) w.1 in
+      let r = listed_range 1 (2 ^ n - 1) k.0 in
+      let e = and_parts (not (eqb (bit_and w.0 v) 0)) _ k.1 in
+      record {
+        group = w.0;
+        told = record { group = group_of n bits f l w.0 (omega (arith, r.0)) (omega (arith, r.1, pow_pos n)) e.1; meets = (decides_meets w.0 v).0 e.0 };
+        holds = w.2;
+      }
+
+  all : (p : ℕ) → InT (told_of n bits f l) v p → In p (held_by found)
+  unfolding found
+  all p t =
+      let r = of_group n bits f l t.group t.told.group in
+      (held_holds found
+      (filter_listed (reached bits v) (range_with_len 1 (2 ^ n - 1))
+      (range_listed 1 (2 ^ n - 1) (omega (arith, r.0)) (omega (arith, r.1)))
+      (rw ((decides_meets t.group v).1 t.told.meets) r.2))).each p t.holds
+
+  pub reach_of : Reach (told_of n bits f l) v (fold (λ m g. bit_or m g) 0 (filter (reached bits v) (range_with_len 1 (2 ^ n - 1))))
+  unfolding found
+  reach_of = rw (fold_held 0 found) (record { made = made; all = all })

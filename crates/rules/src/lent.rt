@@ -5,21 +5,41 @@ ghost use Rattle.domain.specs.Binding.{Bound};
 ghost use Rattle.domain.specs.Coverage.{Listed};
 ghost use Rattle.domain.specs.Forgetting.{Forgotten};
 ghost use Rattle.domain.specs.Joining.{Joined};
+ghost use Rattle.domain.specs.Opening.{New};
 ghost use Rattle.domain.specs.Refusals.{first_of};
-ghost use Rattle.domain.specs.Requests.{open_tests, bind_tests, join_tests, forget_tests, Gives};
+ghost use Rattle.domain.specs.Requests.{open_tests, room_tests, bind_tests, join_tests, forget_tests, Gives};
 ghost use Rattle.domain.specs.Tables.{holds_bit, told_of, told_with};
 ghost use Rattle.rules.specs.Reaching.{Reach};
 
-use crate::reach::reach;
+use crate::mask::all;
 use crate::rule::bound::bound;
 use crate::rule::forgotten::forgotten;
-use crate::rule::join_request::join_refusal;
+use crate::rule::join_request::check_join;
 use crate::rule::joined::joined;
-use crate::rule::load::put_groups;
-use crate::rule::request::{forget_refusal, refusal_of};
+use crate::rule::load::{put_groups, put_singles};
+use crate::rule::request::{check_bind, check_forget, check_room};
+use crate::view::View;
+use domain::count::check_count;
+use domain::listing::Listing;
 use domain::marks::Marks;
 use domain::refusal::Refusal;
 use domain::term::Term;
+
+// Makes the table that of the new description: each position alone in its group, free and linear.
+pub fn open_table(table: &mut [u8], positions: u8) -> Result<Marks, Refusal>
+    ensures gives { Gives (first_of (open_tests positions ++ room_tests (length table.old))) result (λ m. New positions (told_with m table.new)) }
+    ensures kept { (e : Refusal) → result ≡ Err e → table.new ≡ table.old }
+{
+    check_count(positions)?;
+    check_room(table.len())?;
+    put_singles(table, positions);
+    let every = all(positions);
+    Ok(Marks {
+        positions,
+        free: every,
+        linear: every,
+    })
+}
 
 // Clears the table and puts the groups of the list into it. A group past the table's end is left out.
 pub fn load_table(table: &mut [u8], groups: &[u16])
@@ -33,10 +53,13 @@ pub fn load_table(table: &mut [u8], groups: &[u16])
 pub fn reach_table(table: &[u8], positions: u8, mask: u16) -> Result<u16, Refusal>
     ensures { Gives (first_of (open_tests positions)) result (λ m. ((f l : ℕ) → Reach (told_of positions table.now f l) mask m)) }
 {
-    if positions == 0 || positions > 12 {
-        return Err(Refusal::Count);
-    }
-    Ok(reach(table, positions, mask))
+    check_count(positions)?;
+    let marks = Marks {
+        positions,
+        free: 0,
+        linear: 0,
+    };
+    Ok(View { table, marks }.reach(mask))
 }
 
 // Binds the position x to the term.
@@ -44,33 +67,19 @@ pub fn bind_table(table: &mut [u8], marks: Marks, x: u8, term: Term) -> Result<M
     ensures gives { Gives (first_of (open_tests marks.positions ++ bind_tests marks.positions x term (length table.old))) result (λ m. Bound (told_with marks table.old) x term (told_with m table.new)) }
     ensures kept { (e : Refusal) → result ≡ Err e → table.new ≡ table.old }
 {
-    if marks.positions == 0 || marks.positions > 12 {
-        return Err(Refusal::Count);
-    }
-    if let Some(refusal) = refusal_of(marks.positions, x, term, table.len()) {
-        return Err(refusal);
-    }
+    check_count(marks.positions)?;
+    check_bind(marks.positions, x, term, table.len())?;
     Ok(bound(table, marks, x, term))
 }
 
-// Joins the marks and the groups that are given.
-pub fn join_table(
-    table: &mut [u8],
-    marks: Marks,
-    free: u16,
-    linear: u16,
-    groups: &[u16],
-) -> Result<Marks, Refusal>
-    ensures gives { Gives (first_of (open_tests marks.positions ++ join_tests marks.positions free linear groups.now (length table.old))) result (λ m. Joined (told_with marks table.old) free linear groups.now (told_with m table.new)) }
+// Joins the marks and the groups of another description.
+pub fn join_table(table: &mut [u8], marks: Marks, other: Listing<'_>) -> Result<Marks, Refusal>
+    ensures gives { Gives (first_of (open_tests marks.positions ++ join_tests marks.positions other.entry.free other.entry.linear other.entry.groups.now (length table.old))) result (λ m. Joined (told_with marks table.old) other.entry.free other.entry.linear other.entry.groups.now (told_with m table.new)) }
     ensures kept { (e : Refusal) → result ≡ Err e → table.new ≡ table.old }
 {
-    if marks.positions == 0 || marks.positions > 12 {
-        return Err(Refusal::Count);
-    }
-    if let Some(refusal) = join_refusal(marks.positions, free, linear, groups, table.len()) {
-        return Err(refusal);
-    }
-    Ok(joined(table, marks, free, linear, groups))
+    check_count(marks.positions)?;
+    check_join(marks.positions, other, table.len())?;
+    Ok(joined(table, marks, other))
 }
 
 // Forgets the positions of the mask.
@@ -78,11 +87,7 @@ pub fn forget_table(table: &mut [u8], marks: Marks, mask: u16) -> Result<Marks, 
     ensures gives { Gives (first_of (open_tests marks.positions ++ forget_tests marks.positions mask (length table.old))) result (λ m. Forgotten (told_with marks table.old) mask (told_with m table.new)) }
     ensures kept { (e : Refusal) → result ≡ Err e → table.new ≡ table.old }
 {
-    if marks.positions == 0 || marks.positions > 12 {
-        return Err(Refusal::Count);
-    }
-    if let Some(refusal) = forget_refusal(marks.positions, mask, table.len()) {
-        return Err(refusal);
-    }
+    check_count(marks.positions)?;
+    check_forget(marks.positions, mask, table.len())?;
     Ok(forgotten(table, marks, mask))
 }

@@ -7,3 +7,4 @@ mod reach;
 mod rule;
 #[cfg(test)]
 mod tests;
+mod view;

@@ -1,4 +1,5 @@
 // The rules, worked in place on a lent table.
+mod bind;
 pub(crate) mod bound;
 mod choice;
 pub(crate) mod forgotten;

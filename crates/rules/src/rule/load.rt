@@ -1,8 +1,10 @@
-// The groups of a list, put into a table.
-ghost use Rattle.std.specs.Prelude.{◌≡◌, ℕ, ◌/◌, ◌<◌, true, ◌⊎◌, length};
+// The groups of a list, and of the new description, put into a table.
+ghost use Rattle.std.specs.Prelude.{◌≡◌, ℕ, ◌/◌, ◌<◌, ◌≤◌, true, ◌⊎◌, length, Decides};
 ghost use Rattle.domain.specs.Coverage.{Listed};
+ghost use Rattle.domain.specs.Opening.{Single};
 ghost use Rattle.domain.specs.Tables.{holds_bit};
 
+use crate::mask::single;
 use domain::table;
 
 // Puts the groups beside those that the table has. A group past the table's end is left out.
@@ -13,5 +15,17 @@ pub(crate) fn put_groups(table: &mut [u8], groups: &[u16])
 {
     for g in groups {
         table::put(table, *g, true);
+    }
+}
+
+// Makes the groups those of the new description: each position by itself.
+pub(crate) fn put_singles(table: &mut [u8], positions: u8)
+    requires few { positions < 13 }
+    requires room { 512 ≤ length table.old }
+    ensures { (g : ℕ) → Decides (holds_bit table.new g) (Single positions g) }
+{
+    table.fill(0);
+    for p in 0..positions {
+        table::put(table, single(p), true);
     }
 }

@@ -4,19 +4,20 @@ ghost use Rattle.domain.specs.Binding.{NewGroup};
 ghost use Rattle.domain.specs.Tables.{holds_bit, told_with};
 ghost use Rattle.domain.specs.Told.{Group};
 
-use super::made::becomes_group;
-use domain::case::Case;
+use super::bind::Bind;
+use crate::view::View;
 use domain::marks::Marks;
 use domain::table;
 
 // Writes the bit of every mask that can be a group. The test of a mask reads only its subsets, none of
 // which is a larger number, so from the largest mask downwards it reads what is not yet written.
-pub(crate) fn rewrite(table: &mut [u8], marks: Marks, x: u8, held: u16, case: Case)
-    requires { (marks.positions < 13) × ((x < 16) × (512 ≤ length table.old)) }
-    ensures { (u : ℕ) → 0 < u → u < 2 ^ marks.positions → Decides (holds_bit table.new u) (NewGroup (Group (told_with marks table.old)) x held case u) }
+pub(crate) fn rewrite(table: &mut [u8], marks: Marks, bind: Bind)
+    requires few { marks.positions < 13 }
+    requires room { 512 ≤ length table.old }
+    ensures { (u : ℕ) → 0 < u → u < 2 ^ marks.positions → Decides (holds_bit table.new u) (NewGroup (Group (told_with marks table.old)) bind.x bind.held bind.case u) }
 {
     for u in (1..1u16 << marks.positions).rev() {
-        let on = becomes_group(table, marks, x, held, case, u);
+        let on = View { table, marks }.becomes_group(bind, u);
         table::put(table, u, on);
     }
 }

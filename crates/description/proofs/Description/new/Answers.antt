@@ -1,24 +1,25 @@
-use Rattle.std.proofs.Common.{◌≡◌, ℕ, ◌-◌, true, false, ◌||◌, eqb, ltb, ap, arith}
-use Rattle.std.proofs.lemmas.Nat.{one_shl}
-use Rattle.std.proofs.lemmas.Bool.Decides.{nat_tests}
+use Rattle.std.proofs.Common.{◌≡◌, ℕ, ◌||◌, eqb, ltb, None, Option, sym, arith}
+use Rattle.std.proofs.lemmas.Bool.{eqb-false, ltb-false, or_parts}
+use Rattle.domain.specs.Opening.{New}
+use Rattle.domain.specs.Refusals.{pick}
+use Rattle.domain.specs.Tables.{told_with}
+use Rattle.domain.specs.declared.refusal.Refusal.{Refusal}
+use Rattle.domain.specs.declared.refusal.Refusal.TheVariants.{Count}
+use Rattle.domain.proofs.Opening.{new_lawful}
+use Rattle.domain.proofs.Refusing.{passed}
+use Rattle.rules.proofs.Lending.{gave}
+use Rattle.description.specs.Lawful.{Counted}
 use Rattle.description.proofs.Carrying.{carried}
-use Rattle.domain.proofs.Opening.{no_bits, new_of_lem, new_lawful}
 use Rattle.description.proofs.Description.new.Goals as goal
 
-pub returns-then-positions-eq0 : goal.returns-then-positions-eq0
-returns-then-positions-eq0 c =
-    let h : (eqb c.args.positions 0 || ltb 12 c.args.positions) ≡ true = grind (arith, nat_tests) in rw h
-
-pub put_singles-requires : goal.put_singles-requires
-put_singles-requires c = (omega arith, (omega arith, λ g. no_bits 512 g))
+counted : (n : ℕ) (later : Option Refusal) → None ≡ pick (eqb n 0 || ltb 12 n) Count later → Counted n
+counted n later none =
+    let tests = or_parts (eqb n 0) (ltb 12 n) (passed _ Count later none).0 in
+    (omega (arith, eqb-false n 0 tests.0), omega (arith, ltb-false 12 n tests.1))
 
 pub invariant_of-result : goal.invariant_of-result
 invariant_of-result c =
-    carried c.args.positions c.put_singles.new.table _ _
-    (new_lawful c.args.positions _ (omega arith) (omega arith)
-    (new_of_lem c.args.positions c.put_singles.new.table c.put_singles.ensures _ (ap (λ (k : ℕ). k - 1) (one_shl c.args.positions 16 (omega arith)))))
-
-pub returns : goal.returns
-returns c =
-    let h : (eqb c.args.positions 0 || ltb 12 c.args.positions) ≡ false = grind (arith, nat_tests) in
-    rw h (new_of_lem c.args.positions c.put_singles.new.table c.put_singles.ensures _ (ap (λ (k : ℕ). k - 1) (one_shl c.args.positions 16 (omega arith))))
+    let m = c.in_ok-marks.marks in
+    let g = gave _ m (λ x. New c.args.positions (told_with x c.open_table.new.table)) c.in_ok-marks.ensures.gives in
+    let few = counted c.args.positions _ (sym g.0) in
+    carried m.positions c.open_table.new.table m.free m.linear (new_lawful c.args.positions _ few.0 few.1 g.1)

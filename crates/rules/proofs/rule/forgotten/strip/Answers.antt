@@ -3,11 +3,8 @@ use Rattle.std.proofs.lemmas.Nat.{one_shl}
 use Rattle.std.proofs.lemmas.Bool.Decides.{Decides-like}
 use Rattle.domain.specs.Tables.{told_with}
 use Rattle.domain.proofs.Forgetting.{left_local}
-use Rattle.domain.proofs.Tables.{written_up_none, written_up_more, same_groups}
+use Rattle.domain.proofs.Tables.{written_up_more, same_groups}
 use Rattle.rules.proofs.rule.forgotten.strip.Goals as goal
-
-pub loop-u-init : goal.loop-u-init
-loop-u-init c = written_up_none _ _
 
 pub loop-u-preserved : goal.loop-u-preserved
 loop-u-preserved c =
@@ -24,9 +21,3 @@ loop-u-preserved c =
     (left_local old new c.args.mask u (λ g h. same_groups c.args.marks _ _ g (c.loop-u.invariant.kept g h)))
     c.is_left-on.ensures)
     (c.put.ensures.at inside) c.put.ensures.others
-
-pub returns : goal.returns
-returns c =
-    let n = c.args.marks.positions in
-    let size : (1 * 2 ^ n) % 65536 ≡ 2 ^ n = one_shl n 16 (omega arith) in
-    λ u some below. c.loop-u.invariant.done u some (omega (arith, below, size, c.loop-u-test.false))

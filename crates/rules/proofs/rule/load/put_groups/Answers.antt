@@ -1,18 +1,10 @@
-use Rattle.domain.proofs.Loading.{loaded_none, loaded_more, loaded_put}
+use Rattle.domain.proofs.Loading.{loaded_more, loaded_put}
 use Rattle.rules.proofs.rule.load.put_groups.Goals as goal
-
-pub loop-g-init : goal.loop-g-init
-loop-g-init c = loaded_none _ _
 
 pub loop-g-preserved : goal.loop-g-preserved
 loop-g-preserved c =
     loaded_more _ _ _ _ c.loop-g.g-index c.loop-g.auto.table c.loop-g-test.true c.loop-g.invariant
     c.put.ensures.at c.put.ensures.others c.put.ensures.past
 
-pub returns : goal.returns
-returns c =
-    record {
-      put = loaded_put _ _ _ _ c.loop-g-test.false c.loop-g.invariant;
-      grown = c.loop-g.invariant.grown;
-      only = c.loop-g.invariant.only;
-    }
+pub returns-clause-put : goal.returns-clause-put
+returns-clause-put c = loaded_put _ _ _ _ c.loop-g-test.false c.loop-g.invariant

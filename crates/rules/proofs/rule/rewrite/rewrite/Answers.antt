@@ -6,11 +6,8 @@ use Rattle.domain.specs.Tables.{holds_bit, told_with}
 use Rattle.domain.specs.Told.{Group}
 use Rattle.domain.proofs.Bits.{within_le}
 use Rattle.rules.proofs.Local.{new_local}
-use Rattle.domain.proofs.Tables.{written_none, written_more, same_groups}
+use Rattle.domain.proofs.Tables.{written_more, same_groups}
 use Rattle.rules.proofs.rule.rewrite.rewrite.Goals as goal
-
-pub loop-u-init : goal.loop-u-init
-loop-u-init c = rw (one_shl c.args.marks.positions 16 (omega arith)) (written_none _ _ _)
 
 pub loop-u-preserved : goal.loop-u-preserved
 loop-u-preserved c =
@@ -25,10 +22,7 @@ loop-u-preserved c =
     λ g w. c.loop-u.invariant.kept g (omega (arith, within_le w, c.loop-u-test.true)) in
     written_more _ _ _ _ c.loop-u.u u _ c.becomes_group-on.result (omega arith) c.loop-u.invariant
     (Decides-like _
-    (λ m. new_local new old c.args.x c.args.held u (λ g w. same_groups c.args.marks _ _ g (sym (before g w))) c.args.case m)
-    (λ m. new_local old new c.args.x c.args.held u (λ g w. same_groups c.args.marks _ _ g (before g w)) c.args.case m)
+    (λ m. new_local new old c.args.bind.x c.args.bind.held u (λ g w. same_groups c.args.marks _ _ g (sym (before g w))) c.args.bind.case m)
+    (λ m. new_local old new c.args.bind.x c.args.bind.held u (λ g w. same_groups c.args.marks _ _ g (before g w)) c.args.bind.case m)
     c.becomes_group-on.ensures)
     (c.put.ensures.at inside) c.put.ensures.others
-
-pub returns : goal.returns
-returns c = λ u some below. c.loop-u.invariant.done u (omega (arith, some, c.loop-u-test.false)) below

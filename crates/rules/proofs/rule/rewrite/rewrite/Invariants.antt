@@ -7,4 +7,4 @@ use Rattle.rules.proofs.rule.rewrite.rewrite.Given as goal
 
 abbrev pub invariant-loop-u : goal.invariant-loop-u
 invariant-loop-u l =
-    Written (NewGroup (Group (told_with l.marks l.initial.table)) l.x l.held l.case) l.initial.table l.table l.u (2 ^ l.marks.positions)
+    Written (NewGroup (Group (told_with l.marks l.initial.table)) l.bind.x l.bind.held l.bind.case) l.initial.table l.table l.u (2 ^ l.marks.positions)
