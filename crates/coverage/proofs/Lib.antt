@@ -10,7 +10,6 @@ pub mod ForgetCover
 pub mod Kept
 pub mod Submasks
 pub mod Verdicts
-pub mod Ranges
 pub mod Pairs
 pub mod Counting
 pub mod Collecting

@@ -139,8 +139,8 @@ fills_as to from w =
     }
 
 -- the number of positions is not refused where a count is given
-pub counted_few : (n k : ℕ) (P : ℕ → Type 0) → Gives (first_of (open_tests n)) (Ok k) P → (first_of (open_tests n) ≡ None) × (n < 13) × P k
-counted_few n k P h = go (eqb n 0) (ltb 12 n) refl h
+pub counted_few : {A : Type 0} (n : ℕ) (k : A) (P : A → Type 0) → Gives (first_of (open_tests n)) (Ok k) P → (first_of (open_tests n) ≡ None) × (n < 13) × P k
+counted_few {A} n k P h = go (eqb n 0) (ltb 12 n) refl h
   where
     go : (a b : Bool) → ltb 12 n ≡ b → Gives (pick (a || b) Count None) (Ok k) P → (pick (a || b) Count None ≡ None) × (n < 13) × P k
     go false false e h = (refl, (let few = ltb-false 12 n e in omega arith), h)

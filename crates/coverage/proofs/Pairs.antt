@@ -1,36 +1,9 @@
 -- A group is a core group exactly where it has a pair that no group strictly inside it covers.
-use Rattle.std.proofs.Common.{◌≡◌, ℕ, ◌+◌, ◌-◌, ◌^◌, ◌<◌, ◌≤◌, subst, arith}
+use Rattle.std.proofs.Common.{ℕ, ◌+◌, ◌^◌, ◌<◌, ◌≤◌, subst, arith}
 use native.Mathlib.Decide.{dec_lt, ℕ_discrete}
-use lib.Bits.{bit_and}
-use Rattle.domain.specs.Masks.{In}
 use Rattle.domain.specs.Coverage.{Core}
-use Rattle.domain.proofs.Bits.{within_self, within_le, in_below, none_in}
-use Rattle.coverage.specs.Walks.{CoversTo, Inside, OpenPair}
-use Rattle.domain.proofs.Walk.{next_subset}
-use Rattle.coverage.proofs.Submasks.{next_lt}
-
--- ---- strictly inside
-
-pub inside_to : {G : ℕ → Type 0} {p q : ℕ} (g : ℕ) → 0 < g → CoversTo G g (bit_and (g - 1) g) p q → Inside G g p q
-inside_to g h c =
-    record {
-      group = c.group;
-      holding = c.holding;
-      inside = c.inside;
-      smaller = omega (arith, next_lt g g h, c.most);
-    }
-
-pub to_inside : {G : ℕ → Type 0} {p q : ℕ} (g : ℕ) → Inside G g p q → CoversTo G g (bit_and (g - 1) g) p q
-to_inside g i =
-    record {
-      group = i.group;
-      holding = i.holding;
-      inside = i.inside;
-      most = next_subset (within_self g) i.inside (omega (arith, within_le i.inside, i.smaller));
-    }
-
-pub empty_inside : {G : ℕ → Type 0} {g p q : ℕ} → g ≡ 0 → Inside G g p q → ⊥
-empty_inside {g = g} {p = p} e i = none_in {p = p} (subst (λ m. In p m) e (i.inside.each p i.holding.left))
+use Rattle.domain.proofs.Bits.{in_below}
+use Rattle.coverage.specs.Walks.{OpenPair}
 
 -- ---- pairs
 

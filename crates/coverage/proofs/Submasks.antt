@@ -1,57 +1,37 @@
--- The subsets of a mask, walked from the largest number down: after s comes (s - 1) & w.
-use Rattle.std.proofs.Common.{ℕ, ◌-◌, ◌<◌, ◌≤◌, subst, arith}
-use native.Mathlib.Decide.{ℕ_discrete}
-use lib.Bits.{bit_and, and_le_l}
-use Rattle.domain.specs.Masks.{Within}
+-- What some subset of a mask has to be for a pair to be covered.
+use Rattle.std.proofs.Common.{ℕ, ◌≢◌}
 use Rattle.domain.specs.Coverage.{Covers}
-use Rattle.domain.proofs.Bits.{within_le, in_pos}
-use Rattle.domain.proofs.Walk.{next_subset, next_within}
-use Rattle.coverage.specs.Walks.{Holding, CoversTo}
+use Rattle.domain.proofs.Bits.{in_pos}
+use Rattle.domain.proofs.Descending.{SomeSubset}
+use Rattle.coverage.specs.Walks.{Holding, Inside}
 
-pub next_lt : (w s : ℕ) → 0 < s → bit_and (s - 1) w < s
-next_lt w s h = omega (arith, and_le_l (s - 1) w)
+pub some_covers : {G : ℕ → Type 0} {w p q : ℕ} → SomeSubset (Holding G p q) w → Covers G w p q
+some_covers s =
+    record { group = s.part; told = s.holds.told; left = s.holds.left; right = s.holds.right; inside = s.inside }
 
--- ---- the walk
-
--- the walk from `from` stands at s: every group inside w that serves, and is no larger than `from`, is no larger than s
-pub record Walked (G : ℕ → Type 0) (w from p q s : ℕ) : Type 0 where
-  pub inside : Within s w
-  pub below : s ≤ from
-  pub passed : (h : ℕ) → Holding G p q h → Within h w → h ≤ from → h ≤ s
-
-pub walk_start : {G : ℕ → Type 0} {w from p q : ℕ} → Within from w → Walked G w from p q from
-walk_start h = record { inside = h; below = omega arith; passed = λ h k u m. m }
-
-pub walk_on : {G : ℕ → Type 0} {w from p q s : ℕ} → 0 < s → (Holding G p q s → ⊥) → Walked G w from p q s → Walked G w from p q (bit_and (s - 1) w)
-walk_on {G} {w} {from} {p} {q} {s} pos n k =
+pub covers_some : {G : ℕ → Type 0} {w p q : ℕ} → Covers G w p q → SomeSubset (Holding G p q) w
+covers_some c =
     record {
-      inside = next_within s w;
-      below = omega (arith, next_lt w s pos, k.below);
-      passed =
-          λ h t u m.
-          elim (ℕ_discrete h s) [
-            | yes e ↦ absurd (n (subst (Holding G p q) e t))
-            | no ne ↦ next_subset k.inside u (omega (arith, k.passed h t u m))
-          ];
+      part = c.group;
+      some = in_pos c.left;
+      inside = c.inside;
+      holds = record { told = c.told; left = c.left; right = c.right };
     }
 
-pub walk_found : {G : ℕ → Type 0} {w from p q s : ℕ} → Holding G p q s → Walked G w from p q s → CoversTo G w from p q
-walk_found {s = s} t k = record { group = s; holding = t; inside = k.inside; most = k.below }
+-- h is another group than g that holds both positions
+pub record Smaller (G : ℕ → Type 0) (g p q h : ℕ) : Type 0 where
+  pub other : h ≢ g
+  pub holding : Holding G p q h
 
-pub walk_none : {G : ℕ → Type 0} {w from p q s : ℕ} → s ≤ 0 → Walked G w from p q s → CoversTo G w from p q → ⊥
-walk_none z k c = omega (arith, k.passed c.group c.holding c.inside c.most, in_pos c.holding.left)
+pub some_inside : {G : ℕ → Type 0} {g p q : ℕ} → SomeSubset (Smaller G g p q) g → Inside G g p q
+some_inside s =
+    record { group = s.part; holding = s.holds.holding; inside = s.inside; smaller = s.holds.other }
 
--- ---- windows
-
-pub covers_within : {G : ℕ → Type 0} {w p q : ℕ} → CoversTo G w w p q → Covers G w p q
-covers_within c =
-    record { group = c.group; told = c.holding.told; left = c.holding.left; right = c.holding.right; inside = c.inside }
-
-pub within_covers : {G : ℕ → Type 0} {w p q : ℕ} → Covers G w p q → CoversTo G w w p q
-within_covers c =
+pub inside_some : {G : ℕ → Type 0} {g p q : ℕ} → Inside G g p q → SomeSubset (Smaller G g p q) g
+inside_some i =
     record {
-      group = c.group;
-      holding = record { told = c.told; left = c.left; right = c.right };
-      inside = c.inside;
-      most = within_le c.inside;
+      part = i.group;
+      some = in_pos i.holding.left;
+      inside = i.inside;
+      holds = record { other = i.smaller; holding = i.holding };
     }

@@ -1,5 +1,5 @@
--- A walk over the subsets of a window, from a number down.
-use Rattle.std.specs.Prelude.{ℕ, ◌≤◌, ◌≢◌, List}
+-- The groups of a table, and what those inside another do for a pair of its positions.
+use Rattle.std.specs.Prelude.{ℕ, ◌≢◌, List}
 use Rattle.domain.specs.Masks.{In, Within}
 use Rattle.domain.specs.Told.{Group}
 use Rattle.domain.specs.Tables.{told_of}
@@ -13,13 +13,6 @@ pub record Holding (G : ℕ → Type 0) (p q g : ℕ) : Type 0 where
   pub told : G g
   pub left : In p g
   pub right : In q g
-
--- some group inside w, no larger a number than top, holds both positions
-pub record CoversTo (G : ℕ → Type 0) (w top p q : ℕ) : Type 0 where
-  pub group : ℕ
-  pub holding : Holding G p q group
-  pub inside : Within group w
-  pub most : group ≤ top
 
 -- some group strictly inside g holds both positions
 pub record Inside (G : ℕ → Type 0) (g p q : ℕ) : Type 0 where

@@ -5,6 +5,7 @@ pub mod binding;
 pub mod cores;
 pub mod existence;
 pub mod forgetting;
+pub mod groups;
 pub mod joining;
 pub mod keeping;
 pub mod least;

@@ -4,32 +4,36 @@ ghost use Rattle.coverage.specs.Listing.{WritesCore, FillsCore};
 ghost use Rattle.coverage.specs.Walks.{TableGroup};
 ghost use Rattle.domain.specs.Coverage.{CoreFits};
 
-use crate::cores::{core_count, is_core};
+use crate::groups::Groups;
 use domain::refusal::Refusal;
 use roll::roll::Roll;
 
-// Puts the core of a table of n positions at the start of a list and says how many groups it has. A list
-// that is too short is refused and stays.
-pub fn write_core(table: &[u8], n: u8, list: &mut [u16]) -> Result<usize, Refusal>
-    ensures { (f l : ℕ) → WritesCore n table.now f l list.old list.new result }
-{
-    let count = core_count(table, n)? as usize;
-    if list.len() < count {
-        return Err(Refusal::Room);
-    }
-    Ok(fill_core(table, n, list))
-}
-
-// The same, where there is room. The groups are met in ascending order, so each goes behind the others.
-fn fill_core(table: &[u8], n: u8, list: &mut [u16]) -> usize
-    requires { (n < 13) × (CoreFits (TableGroup n table.now) (length list.old)) }
-    ensures { FillsCore (TableGroup n table.now) list.old list.new result }
-{
-    let mut roll = Roll::over(list);
-    for g in 1..1u16 << n {
-        if is_core(table, n, g) {
-            roll.add(g);
+impl Groups<'_> {
+    // Puts the core at the start of a list and says how many groups it has. A list that is too short is
+    // refused and stays.
+    pub fn write_core(&self, list: &mut [u16]) -> Result<usize, Refusal>
+        ensures { (f l : ℕ) → WritesCore self.now.positions self.now.table.now f l list.old list.new result }
+    {
+        let count = usize::from(self.core_count()?);
+        if list.len() < count {
+            return Err(Refusal::Room);
         }
+        Ok(self.fill_core(list))
     }
-    roll.len()
+
+    // The same, where there is room. The groups are met in ascending order, so each goes behind the others.
+    fn fill_core(&self, list: &mut [u16]) -> usize
+        requires few { self.now.positions < 13 }
+        requires fits { CoreFits (TableGroup self.now.positions self.now.table.now) (length list.old) }
+        ensures { FillsCore (TableGroup self.now.positions self.now.table.now) list.old list.new result }
+    {
+        let mut roll = Roll::over(list);
+        for g in 1..1u16 << self.positions {
+            if self.is_core(g) {
+                // there is room, and no group comes twice
+                let _ = roll.add(g);
+            }
+        }
+        roll.len()
+    }
 }

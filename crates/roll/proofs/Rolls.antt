@@ -2,34 +2,32 @@
 -- leaves as it was.
 use Rattle.std.proofs.Common.{◌≡◌, ℕ, zero, suc, ◌+◌, ◌-◌, ◌<◌, ◌≤◌, Bool, true, false, cond, ltb, List, [], ◌∷◌, ◌++◌, length, get_or, take, drop, set, sym, refl, ap, ◌∙◌, subst, add-one, one-add, arith}
 use lib.Seq.{paste}
-use Rattle.std.specs.List.{insert as inserted, AllByRecursion}
-use Rattle.std.proofs.lemmas.List.{append_assoc, drop_more, take_more, take_all, drop_all, drop-set-lt, length-append, length-drop, length-take-le, set-append_left, set_at, set_split, take-append-drop, take_at, take-take, drop-take}
+use Rattle.std.specs.Bool.{MatchBool, Decides}
+use Rattle.std.specs.List.{insert as inserted, AllByRecursion, AllWithin, HoldsAt}
+use Rattle.std.proofs.lemmas.List.{append_assoc, take_more, take_all, drop-set-lt, length-append, length-drop, length-take-le, set-append_left, set_at, set_split, take-append-drop, take_at, take-take, drop-take}
 use Rattle.std.proofs.lemmas.List.Edits.{drop-paste}
 use Rattle.std.proofs.ByRecursion.{All-weaker}
 use Rattle.std.proofs.lemmas.Bool.{ltb-true, ltb-false, lt-ltb, le-ltb, false≢true, cond-true, cond-false, cond_both}
 use Rattle.roll.specs.Rolls.{Holds, here, there, Counts, none, one_more, as_many, Ascending, place, insert, InOrder, Joins, Adds, Appends, Member}
-use Rattle.roll.specs.declared.added.Added.{Added}
-use Rattle.roll.specs.declared.added.Added.TheVariants as added
+use Rattle.std.specs.Prelude.{Ok, Err, Result}
+use Rattle.roll.specs.declared.not_added.NotAdded.{NotAdded}
+use Rattle.roll.specs.declared.not_added.NotAdded.TheVariants.{Held, Full}
 
 module _ {X K : Type 0} (key : X → K) (k : K) where
-  -- one of the entries has the key
-  pub holds_at : (xs : List X) (i : ℕ) (x : X) → i < length xs → x ≡ get_or xs i x → key x ≡ k → Holds key k xs
-  holds_at [] i x lt is e = absurd (omega arith)
-  holds_at (y ∷ ys) zero x lt is e = here (subst (λ z. key z ≡ k) is e)
-  holds_at (y ∷ ys) (suc i) x lt is e = there (holds_at ys i x (omega arith) is e)
+  holds_where : (xs : List X) (i : ℕ) → i < length xs → HoldsAt (λ x. key x ≡ k) xs i → Holds key k xs
+  holds_where [] i lt at = absurd (omega arith)
+  holds_where (y ∷ ys) zero lt at = here (at y)
+  holds_where (y ∷ ys) (suc i) lt at = there (holds_where ys i (omega arith) at)
 
-  pub holds_tail : {x : X} {xs : List X} → (key x ≡ k → ⊥) → Holds key k (x ∷ xs) → Holds key k xs
-  holds_tail no_key (here e) = absurd (no_key e)
-  holds_tail no_key (there h) = h
+  held_nowhere : (xs : List X) → AllWithin (λ x. key x ≡ k → ⊥) xs 0 (length xs) → Holds key k xs → ⊥
+  held_nowhere [] passed h = elim h [ ]
+  held_nowhere (y ∷ ys) passed (here e) = passed 0 y (omega arith) (omega arith) e
+  held_nowhere (y ∷ ys) passed (there h) = held_nowhere ys (λ i d low high. passed (suc i) d (omega arith) (omega arith)) h
 
-  -- an entry without the key is passed
-  pub holds_later : (xs : List X) (i : ℕ) (x : X) → i < length xs → x ≡ get_or xs i x → (key x ≡ k → ⊥) → Holds key k (drop i xs) → Holds key k (drop (i + 1) xs)
-  holds_later xs i x lt is no_key h =
-      let e : drop i xs ≡ x ∷ drop (i + 1) xs = drop_more xs i x lt ∙ ap (λ (y : X). y ∷ drop (i + 1) xs) (sym is) in
-      holds_tail no_key (subst (Holds key k) e h)
-
-  pub holds_none : Holds key k [] → ⊥
-  holds_none h = elim h [ ]
+  -- the answer of a search for the key
+  pub holds_decided : (xs : List X) (r : Bool) → MatchBool r ((i : ℕ) × (i < length xs) × HoldsAt (λ x. key x ≡ k) xs i) (AllWithin (λ x. key x ≡ k → ⊥) xs 0 (length xs)) → Decides r (Holds key k xs)
+  holds_decided xs true found = ((λ _. holds_where xs found.0 found.1 found.2), λ _. refl)
+  holds_decided xs false passed = ((λ e. absurd (false≢true e)), λ h. absurd (held_nowhere xs passed h))
 
   counts_push_one : (x : X) {xs : List X} {n : ℕ} → key x ≡ k → Counts key k xs n → Counts key k (xs ++ x ∷ []) (suc n)
   counts_push_one x e none = one_more e none
@@ -70,24 +68,11 @@ module _ {X : Type 0} (rank : X → ℕ) where
       elim b as (λ v. cond v (x ∷ (y ∷ ys)) (y ∷ insert rank x ys) ≡ inserted (y ∷ ys) (cond v 0 (1 + place rank (rank x) ys)) x)
       [ true ↦ refl | false ↦ rw one-add (ap (λ (zs : List X). y ∷ zs) (insert_is x ys)) ]
 
-  drop_read : (xs : List X) (i : ℕ) (x : X) → i < length xs → x ≡ get_or xs i x → drop i xs ≡ x ∷ drop (i + 1) xs
-  drop_read xs i x lt is = drop_more xs i x lt ∙ ap (λ (y : X). y ∷ drop (i + 1) xs) (sym is)
+  pub place_found : (r : ℕ) (x : X) (xs : List X) → r < rank x → place rank r (x ∷ xs) ≡ 0
+  place_found r x xs lt = cond-true _ 0 (1 + place rank r xs) (lt-ltb r (rank x) lt)
 
-  -- one turn of the search for the place
-  pub place_here : (r : ℕ) (xs : List X) (i : ℕ) (x : X) → i < length xs → x ≡ get_or xs i x → r < rank x → place rank r xs ≡ i + place rank r (drop i xs) → i ≡ place rank r xs
-  place_here r xs i x lt is larger inv =
-      let e : place rank r (drop i xs) ≡ 0 = ap (place rank r) (drop_read xs i x lt is) ∙ cond-true _ 0 (1 + place rank r (drop (i + 1) xs)) (lt-ltb r (rank x) larger) in
-      omega (arith, e, inv)
-
-  pub place_later : (r : ℕ) (xs : List X) (i : ℕ) (x : X) → i < length xs → x ≡ get_or xs i x → rank x ≤ r → place rank r xs ≡ i + place rank r (drop i xs) → place rank r xs ≡ (i + 1) + place rank r (drop (i + 1) xs)
-  place_later r xs i x lt is smaller inv =
-      let e : place rank r (drop i xs) ≡ 1 + place rank r (drop (i + 1) xs) = ap (place rank r) (drop_read xs i x lt is) ∙ cond-false _ 0 (1 + place rank r (drop (i + 1) xs)) (le-ltb r (rank x) smaller) in
-      omega (arith, e, inv)
-
-  pub place_last : (r : ℕ) (xs : List X) (i : ℕ) → length xs ≤ i → i ≤ length xs → place rank r xs ≡ i + place rank r (drop i xs) → length xs ≡ place rank r xs
-  place_last r xs i past within inv =
-      let e : place rank r (drop i xs) ≡ 0 = ap (place rank r) (drop_all i xs past) in
-      omega (arith, e, inv)
+  pub place_passed : (r : ℕ) (x : X) (xs : List X) → rank x ≤ r → place rank r (x ∷ xs) ≡ place rank r xs + 1
+  place_passed r x xs le = let e = cond-false _ 0 (1 + place rank r xs) (le-ltb r (rank x) le) in omega (arith, e)
 
 -- moving the entries from p on up by one, and then writing x at p
 module _ {X : Type 0} (xs : List X) (p m : ℕ) (x : X) (room : p + m < length xs) where
@@ -220,7 +205,7 @@ module _ {X K : Type 0} (key : X → K) (rank : K → ℕ) (x : X) where
         sym (take-append-drop (used + 1) ys) ∙ rw (front, a.spare) (append_assoc (take used xs) (x ∷ []) (drop (used + 1) xs))
         ∙ sym (set_split xs used x room ∙ ap (λ (k : ℕ). take used xs ++ x ∷ drop k xs) (sym (add-one used)))
 
-    pub added_last : (r : Added) → Adds key rank x used xs ys r → Appends key rank x used xs ys r
-    added_last added.Added a room below = (refl, written_last a room below)
-    added_last added.Held a room below = absurd (above_fresh (take used xs) below a.0)
-    added_last added.Full a room below = let full = a.1 in absurd (omega arith)
+    pub added_last : (r : Result (Unit {0}) NotAdded) → Adds key rank x used xs ys r → Appends key rank x used xs ys r
+    added_last (Ok u) a room below = (refl, written_last a room below)
+    added_last (Err Held) a room below = absurd (above_fresh (take used xs) below a.0)
+    added_last (Err Full) a room below = let full = a.1 in absurd (omega arith)

@@ -1,8 +1,8 @@
 -- Lists of entries with keys: which hold a key, how many entries have it, and where one more goes.
-use Rattle.std.specs.Prelude.{◌≡◌, ℕ, suc, ◌+◌, ◌<◌, cond, List, [], ◌∷◌, length, take, drop, ◌≢◌, nat_lt, slice_set}
+use Rattle.std.specs.Prelude.{◌≡◌, ℕ, suc, ◌+◌, ◌<◌, cond, List, [], ◌∷◌, length, take, drop, Ok, Err, Result, ◌≢◌, nat_lt, slice_set}
 use Rattle.std.specs.List.{AllByRecursion}
-use Rattle.roll.specs.declared.added.Added.{Added}
-use Rattle.roll.specs.declared.added.Added.TheVariants as added
+use Rattle.roll.specs.declared.not_added.NotAdded.{NotAdded}
+use Rattle.roll.specs.declared.not_added.NotAdded.TheVariants.{Held, Full}
 
 -- some entry has the key
 pub data Holds {X K : Type 0} (key : X → K) (k : K) : List X → Type 0 where
@@ -44,24 +44,24 @@ pub record Joins {X K : Type 0} (key : X → K) (rank : K → ℕ) (entry : X) (
 
 -- What adding does, by its answer: where the key is held, or else no entry is left over, nothing
 -- changes.
-abbrev pub Adds : {X K : Type 0} → (X → K) → (K → ℕ) → X → ℕ → List X → List X → Added → Type 0
-Adds key rank entry used before after added.Added = Joins key rank entry used before after
-Adds key rank entry used before after added.Held =
+abbrev pub Adds : {X K : Type 0} → (X → K) → (K → ℕ) → X → ℕ → List X → List X → Result (Unit {0}) NotAdded → Type 0
+Adds key rank entry used before after (Ok u) = Joins key rank entry used before after
+Adds key rank entry used before after (Err Held) =
     Holds key (key entry) (take used before) × (after ≡ before)
-Adds key rank entry used before after added.Full =
+Adds key rank entry used before after (Err Full) =
     (Holds key (key entry) (take used before) → ⊥) × (used ≡ length before) × (after ≡ before)
 
 -- An entry above all in use is written behind them where one is left over, and no other entry changes.
-abbrev pub Appends : {X K : Type 0} → (X → K) → (K → ℕ) → X → ℕ → List X → List X → Added → Type 0
+abbrev pub Appends : {X K : Type 0} → (X → K) → (K → ℕ) → X → ℕ → List X → List X → Result (Unit {0}) NotAdded → Type 0
 Appends key rank entry used before after r =
     used < length before → AllByRecursion (λ e. rank (key e) < rank (key entry)) (take used before) →
-    (r ≡ added.Added) × (after ≡ slice_set before used entry)
+    (r ≡ Ok tt) × (after ≡ slice_set before used entry)
 
 -- how many entries are in use after adding
-abbrev pub used_after : ℕ → Added → ℕ
-used_after used added.Added = used + 1
-used_after used added.Held = used
-used_after used added.Full = used
+abbrev pub used_after : ℕ → Result (Unit {0}) NotAdded → ℕ
+used_after used (Ok u) = used + 1
+used_after used (Err Held) = used
+used_after used (Err Full) = used
 
 -- the entry itself stands in the list
 abbrev pub Member : {X : Type 0} → X → List X → Type 0

@@ -2,8 +2,8 @@
 ghost use Rattle.std.specs.Prelude.{◌≡◌, ◌≤◌, length};
 ghost use Rattle.roll.specs.Rolls.{Adds, place};
 
-use crate::added::Added;
 use crate::key::{Keyed, Ranked};
+use crate::not_added::NotAdded;
 use crate::search::holds_key;
 
 // How many entries stand before the first with a larger rank?
@@ -13,16 +13,18 @@ where
     ensures within { result ≤ length entries.now }
     ensures first { result ≡ place (λ e. T.Key.Ranked.rank (T.Keyed.key e)) rank entries.now }
 {
-    for (i, entry) in entries.iter().enumerate() {
-        if rank < entry.key().rank() {
-            return i;
-        }
-    }
-    entries.len()
+    entries
+        .iter()
+        .position(|entry| rank < entry.key().rank())
+        .unwrap_or(entries.len())
 }
 
 // Adds an entry to the first `used`, if its key is not there and an entry is left over.
-pub(crate) fn insert<T: Keyed + Copy>(entries: &mut [T], used: usize, entry: T) -> Added
+pub(crate) fn insert<T: Keyed + Copy>(
+    entries: &mut [T],
+    used: usize,
+    entry: T,
+) -> Result<(), NotAdded>
 where
     T::Key: Ranked,
     requires { used ≤ length entries.old }
@@ -30,13 +32,13 @@ where
 {
     let key = entry.key();
     if holds_key(&entries[0..used], &key) {
-        return Added::Held;
+        return Err(NotAdded::Held);
     }
     if used == entries.len() {
-        return Added::Full;
+        return Err(NotAdded::Full);
     }
     let place = place_of(&entries[0..used], key.rank());
     entries.copy_within(place..used, place + 1);
     entries[place] = entry;
-    Added::Added
+    Ok(())
 }

@@ -1,9 +1,9 @@
 // Rolls: one ordered list for every kind of entry that has a key.
 #![tactic(auto)]
 
-pub mod added;
 mod insertion;
 pub mod key;
+pub mod not_added;
 pub mod roll;
 pub mod search;
 #[cfg(test)]

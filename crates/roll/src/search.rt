@@ -8,12 +8,7 @@ use crate::key::Keyed;
 pub fn holds_key<T: Keyed>(entries: &[T], key: &T::Key) -> bool
     ensures { Decides result (Holds T.Keyed.key key.now entries.now) }
 {
-    for entry in entries {
-        if entry.has_key(key) {
-            return true;
-        }
-    }
-    false
+    entries.iter().any(|entry| entry.has_key(key))
 }
 
 // How many entries have the key?

@@ -1,6 +1,6 @@
 // Rolls of numbers and of records, and keys that have no order.
-use crate::added::Added;
 use crate::key::{Keyed, Ranked};
+use crate::not_added::NotAdded;
 use crate::roll::Roll;
 use crate::search::{count_key, holds_key};
 use std::process::Abort;
@@ -47,7 +47,12 @@ impl Keyed for Tagged {
     }
 }
 
-fn adds<T: Keyed + Copy>(rt: &impl Abort, roll: &mut Roll<T>, entry: T, wanted: Added)
+fn adds<T: Keyed + Copy>(
+    rt: &impl Abort,
+    roll: &mut Roll<T>,
+    entry: T,
+    wanted: Result<(), NotAdded>,
+)
 where
     T::Key: Ranked,
 {
@@ -62,8 +67,8 @@ fn lists(rt: &impl Abort, roll: &Roll<u16>, wanted: &[u16]) {
 fn added_in_order(rt: HostRuntime) {
     let mut slots = [0; 3];
     let mut roll = Roll::over(&mut slots);
-    adds(&rt, &mut roll, 5, Added::Added);
-    adds(&rt, &mut roll, 7, Added::Added);
+    adds(&rt, &mut roll, 5, Ok(()));
+    adds(&rt, &mut roll, 7, Ok(()));
     lists(&rt, &roll, &[5, 7]);
     assert_eq!(rt; roll.len(), 2);
 }
@@ -72,9 +77,9 @@ fn added_in_order(rt: HostRuntime) {
 fn added_out_of_order(rt: HostRuntime) {
     let mut slots = [0; 3];
     let mut roll = Roll::over(&mut slots);
-    adds(&rt, &mut roll, 7, Added::Added);
-    adds(&rt, &mut roll, 2, Added::Added);
-    adds(&rt, &mut roll, 5, Added::Added);
+    adds(&rt, &mut roll, 7, Ok(()));
+    adds(&rt, &mut roll, 2, Ok(()));
+    adds(&rt, &mut roll, 5, Ok(()));
     lists(&rt, &roll, &[2, 5, 7]);
 }
 
@@ -82,9 +87,9 @@ fn added_out_of_order(rt: HostRuntime) {
 fn held_comes_before_full(rt: HostRuntime) {
     let mut slots = [0; 1];
     let mut roll = Roll::over(&mut slots);
-    adds(&rt, &mut roll, 7, Added::Added);
-    adds(&rt, &mut roll, 7, Added::Held);
-    adds(&rt, &mut roll, 3, Added::Full);
+    adds(&rt, &mut roll, 7, Ok(()));
+    adds(&rt, &mut roll, 7, Err(NotAdded::Held));
+    adds(&rt, &mut roll, 3, Err(NotAdded::Full));
     lists(&rt, &roll, &[7]);
 }
 
@@ -92,14 +97,14 @@ fn held_comes_before_full(rt: HostRuntime) {
 fn without_room(rt: HostRuntime) {
     let mut slots = [];
     let mut roll = Roll::over(&mut slots);
-    adds(&rt, &mut roll, 0, Added::Full);
+    adds(&rt, &mut roll, 0, Err(NotAdded::Full));
     assert!(rt; roll.capacity() == 0 && roll.len() == 0);
 }
 
 // Adds three numbers in ascending order, with the answer that is wanted to the last.
-fn three(rt: &impl Abort, roll: &mut Roll<u16>, last: Added) {
-    adds(rt, roll, 5, Added::Added);
-    adds(rt, roll, 7, Added::Added);
+fn three(rt: &impl Abort, roll: &mut Roll<u16>, last: Result<(), NotAdded>) {
+    adds(rt, roll, 5, Ok(()));
+    adds(rt, roll, 7, Ok(()));
     adds(rt, roll, 9, last);
 }
 
@@ -107,7 +112,7 @@ fn three(rt: &impl Abort, roll: &mut Roll<u16>, last: Added) {
 fn exactly_full(rt: HostRuntime) {
     let mut slots = [0; 3];
     let mut roll = Roll::over(&mut slots);
-    three(&rt, &mut roll, Added::Added);
+    three(&rt, &mut roll, Ok(()));
     assert!(rt; roll.len() == roll.capacity());
     lists(&rt, &roll, &[5, 7, 9]);
 }
@@ -116,7 +121,7 @@ fn exactly_full(rt: HostRuntime) {
 fn one_entry_short(rt: HostRuntime) {
     let mut slots = [0; 2];
     let mut roll = Roll::over(&mut slots);
-    three(&rt, &mut roll, Added::Full);
+    three(&rt, &mut roll, Err(NotAdded::Full));
     lists(&rt, &roll, &[5, 7]);
 }
 
@@ -126,7 +131,7 @@ fn spare_entries(rt: HostRuntime) {
     let mut slots = [4; 3];
     let mut roll = Roll::over(&mut slots);
     assert!(rt; !roll.holds(&4));
-    adds(&rt, &mut roll, 4, Added::Added);
+    adds(&rt, &mut roll, 4, Ok(()));
     assert!(rt; roll.holds(&4));
     assert_eq!(rt; roll.count(&4), 1);
 }
@@ -149,8 +154,8 @@ fn answers(rt: &impl Abort, notes: &[Note], wanted: [bool; 2]) -> Result<(), Fai
 fn records(rt: HostRuntime) -> Result<(), Fail> {
     let mut slots = [noted(0, false); 2];
     let mut roll = Roll::over(&mut slots);
-    adds(&rt, &mut roll, noted(9, true), Added::Added);
-    adds(&rt, &mut roll, noted(3, false), Added::Added);
+    adds(&rt, &mut roll, noted(9, true), Ok(()));
+    adds(&rt, &mut roll, noted(3, false), Ok(()));
     answers(&rt, roll.in_use(), [false, true])
 }
 

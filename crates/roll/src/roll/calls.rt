@@ -3,9 +3,9 @@ ghost use Rattle.std.specs.Prelude.{◌≡◌, length, Decides};
 ghost use Rattle.roll.specs.Rolls.{Adds, Appends, Counts, Holds, InOrder, Member, used_after};
 ghost use Rattle.roll.specs.Views.{in_use, slots};
 
-use crate::added::Added;
 use crate::insertion::insert;
 use crate::key::{Keyed, Ranked};
+use crate::not_added::NotAdded;
 use crate::roll::Roll;
 use crate::search::{count_key, holds_key};
 
@@ -63,7 +63,7 @@ where
 {
     // Adds an entry in its place. An ascending roll stays ascending, and no entry in use is lost; an
     // entry above all others goes behind them.
-    pub fn add(&mut self, entry: T) -> Added
+    pub fn add(&mut self, entry: T) -> Result<(), NotAdded>
         ensures adds { Adds T.Keyed.key T.Key.Ranked.rank entry self.old.used (slots self.old) (slots self.new) result }
         ensures counted { self.new.used ≡ used_after self.old.used result }
         ensures ordered { InOrder T.Keyed.key T.Key.Ranked.rank (in_use self.old) → InOrder T.Keyed.key T.Key.Ranked.rank (in_use self.new) }
@@ -72,10 +72,8 @@ where
         ensures lent { self.new.entries.ghost_name ≡ self.old.entries.ghost_name }
     {
         let Roll { entries, used } = self;
-        let answer = insert(entries, *used, entry);
-        if let Added::Added = answer {
-            *used += 1;
-        }
-        answer
+        insert(entries, *used, entry)?;
+        *used += 1;
+        Ok(())
     }
 }

@@ -1,25 +1,11 @@
-use Rattle.std.proofs.Common.{refl, subst, arith}
-use Rattle.std.proofs.lemmas.List.{drop_all}
-use Rattle.std.proofs.lemmas.Bool.{both_ways, false≢true}
-use Rattle.roll.specs.Rolls.{Holds}
-use Rattle.roll.proofs.Rolls.{holds_at, holds_later, holds_none}
+use Rattle.std.proofs.Common.{rules, ◌≡◌}
+use Rattle.std.proofs.lemmas.Iterator.{cases_from_any, YieldsList-from_slice}
+use borrow.Author.Tests.{tests}
+use Rattle.roll.proofs.Rolls.{holds_decided}
 use Rattle.roll.proofs.search.holds_key.Goals as goal
 
-pub returns-then-has_key : goal.returns-then-has_key
-returns-then-has_key g c = (
-  (λ _. holds_at _ _ _ _ _ (omega arith) c.entry-item.is (c.has_key.ensures.0 c.if-has_key.true)),
-  λ _. refl,
-)
-
-pub loop-entry-preserved : goal.loop-entry-preserved
-loop-entry-preserved g c =
-    λ h. holds_later _ _ c.args.entries.now c.loop-entry.entry-index c.entry-item.result (omega arith)
-    c.entry-item.is
-    (λ e. both_ways _ c.if-has_key.false (c.has_key.ensures.1 e))
-    (c.loop-entry.invariant h)
-
 pub returns : goal.returns
-returns g c = (
-  (λ e. absurd (false≢true e)),
-  λ h. absurd (holds_none _ _ (subst (Holds _ _) (drop_all _ _ c.loop-entry-test.false) (c.loop-entry.invariant h))),
-)
+returns g c =
+    holds_decided g.T.Keyed.key c.args.key.now c.args.entries.now c.any.result
+    (cases_from_any _ _ _ (λ x. g.T.Keyed.key x ≡ c.args.key.now) (λ x. g.T.Keyed.key x ≡ c.args.key.now → ⊥) c.any.ensures.ran
+    (YieldsList-from_slice c.args.entries.now cc) (λ x q k. search (rules, tests)) (λ x q k. search (rules, tests)))

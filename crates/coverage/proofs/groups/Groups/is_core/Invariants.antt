@@ -1,12 +1,12 @@
 use Rattle.std.proofs.Common.{◌≡◌, false}
 use Rattle.coverage.specs.Walks.{TableGroup}
 use Rattle.coverage.proofs.Pairs.{Closed, ClosedAt}
-use Rattle.coverage.proofs.cores.is_core.Given as goal
+use Rattle.coverage.proofs.groups.Groups.is_core.Given as goal
 
 -- no pair with p has been open
 abbrev pub invariant-loop-q : goal.invariant-loop-q
-invariant-loop-q l = (l.open ≡ false) × ClosedAt (TableGroup l.n l.table) l.g l.p l.q
+invariant-loop-q l = (l.open ≡ false) × ClosedAt (TableGroup l.self.positions l.self.table.now) l.g l.p l.q
 
 -- no pair with a position below p has been open
 abbrev pub invariant-pairs : goal.invariant-pairs
-invariant-pairs l = (l.open ≡ false) × Closed (TableGroup l.n l.table) l.g l.p
+invariant-pairs l = (l.open ≡ false) × Closed (TableGroup l.self.positions l.self.table.now) l.g l.p

@@ -1,11 +1,7 @@
-use Rattle.std.proofs.Common.{refl}
+use Rattle.std.proofs.Common.{refl, rules}
 use Rattle.coverage.proofs.Verdicts.{decides_yes, decides_no, decided_no}
 use Rattle.coverage.proofs.Pairs.{closed_start, closed_at_start, closed_at_more, closed_more, closed_core, open_core, core_as}
-use Rattle.coverage.proofs.cores.is_core.Goals as goal
-
-pub returns-then-not-is_group : goal.returns-then-not-is_group
-returns-then-not-is_group c =
-    λ f l. decides_no (λ k. decided_no (c.is_group.ensures f l) c.if-not-is_group.true k.told)
+use Rattle.coverage.proofs.groups.Groups.is_core.Goals as goal
 
 pub pairs-init : goal.pairs-init
 pairs-init c = (refl, closed_start)
@@ -34,4 +30,4 @@ returns-then-is_open c =
     λ f l.
     decides_yes
     (core_as (λ g t. record { told = t.told }) (λ g t. record { told = t.told })
-    (open_core ((c.is_group.ensures 0 0).0 c.if-not-is_group.false) (c.is_open.ensures.0 c.if-is_open.true)))
+    (open_core (record { told = search rules }) (c.is_open.ensures.0 c.if-is_open.true)))

@@ -4,12 +4,12 @@ use Rattle.roll.specs.Views.{slots}
 use Rattle.coverage.proofs.Verdicts.{decided_no}
 use Rattle.coverage.proofs.Counting.{core_range, shifted_end}
 use Rattle.coverage.proofs.ListedCores.{list_start, list_skip, list_one, list_room, list_long, list_below, list_end, fills_over}
-use Rattle.coverage.proofs.listing.fill_core.Goals as goal
-use Rattle.coverage.proofs.listing.fill_core.Goals.{then-is_core, else-is_core}
+use Rattle.coverage.proofs.groups.Groups.fill_core.Goals as goal
+use Rattle.coverage.proofs.groups.Groups.fill_core.Goals.{then-is_core, else-is_core}
 
 pub loop-g-init : goal.loop-g-init
 loop-g-init c = (
-  rw c.over-roll.ensures.empty (list_start (slots c.over-roll.result) (λ k. omega (arith, (core_range c.args.n c.args.table.now 0 k).0))),
+  rw c.over-roll.ensures.empty (list_start (slots c.over-roll.result) (λ k. omega (arith, (core_range c.args.self.now.positions c.args.self.now.table.now 0 k).0))),
   refl,
 )
 
@@ -21,7 +21,7 @@ loop-g-preserved c =
       | then-is_core w ↦
           let core = (c.is_core.ensures 0 0).0 w.if-is_core.true in
           let room : c.loop-g.roll.used < length (slots c.over-roll.result) =
-          omega (arith, list_room low core inv c.requires.1, ap length c.over-roll.ensures.same) in
+          omega (arith, list_room low core inv c.requires.fits, ap length c.over-roll.ensures.same) in
           let long : length (slots c.loop-g.roll) ≡ length (slots c.over-roll.result) = list_long (omega arith) inv in
           let added = w.add.ensures.appended (omega (arith, long, room)) (list_below inv) in
           let used = w.add.ensures.counted ∙ ap (used_after c.loop-g.roll.used) added.0 in
@@ -38,8 +38,8 @@ returns c =
     list_end
     (λ h k. omega (
       arith,
-      (core_range c.args.n c.args.table.now h k).1,
-      shifted_end c.args.n (let few = c.requires.0 in omega arith),
+      (core_range c.args.self.now.positions c.args.self.now.table.now h k).1,
+      shifted_end c.args.self.now.positions (let few = c.requires.few in omega arith),
       c.loop-g-test.false,
     ))
     c.loop-g.invariant.0 in

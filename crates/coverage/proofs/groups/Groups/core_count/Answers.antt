@@ -1,13 +1,13 @@
 use Rattle.std.proofs.Common.{arith}
-use Rattle.std.proofs.lemmas.Bool.{ne_eqb, le-ltb}
 use Rattle.coverage.proofs.Verdicts.{decided_no}
 use Rattle.coverage.proofs.Counting.{count_start, count_skip, count_one, count_end, count_as, core_range, shifted_end}
-use Rattle.coverage.proofs.cores.core_count.Goals as goal
-use Rattle.coverage.proofs.cores.core_count.Goals.{then-is_core, else-is_core}
+use Rattle.coverage.proofs.ListedCores.{counted_few}
+use Rattle.coverage.proofs.groups.Groups.core_count.Goals as goal
+use Rattle.coverage.proofs.groups.Groups.core_count.Goals.{then-is_core, else-is_core}
 
 pub loop-g-init : goal.loop-g-init
 loop-g-init c =
-    (omega arith, count_start (λ k. omega (arith, (core_range c.args.n c.args.table.now 0 k).0)))
+    (omega arith, count_start (λ k. omega (arith, (core_range c.args.self.now.positions c.args.self.now.table.now 0 k).0)))
 
 pub loop-g-preserved : goal.loop-g-preserved
 loop-g-preserved c =
@@ -24,15 +24,16 @@ loop-g-preserved c =
 
 pub returns : goal.returns
 returns c =
-    rw (ne_eqb c.args.n 0 c.if-n-eq0.false, le-ltb 12 c.args.n c.if-n-gt12.false)
+    let given = counted_few c.args.self.now.positions tt _ c.in_ok-check_count.ensures in
+    rw given.0
     (λ f l.
     count_as (λ g t. record { told = t.told }) (λ g t. record { told = t.told })
     (count_end
     (λ h k.
     omega (
       arith,
-      (core_range c.args.n c.args.table.now h k).1,
-      shifted_end c.args.n c.if-n-gt12.false,
+      (core_range c.args.self.now.positions c.args.self.now.table.now h k).1,
+      shifted_end c.args.self.now.positions (let few = given.1 in omega arith),
       c.loop-g-test.false,
     ))
     c.loop-g.invariant.1))

@@ -1,0 +1,8 @@
+// The groups of a description, as they lie in a bit table.
+#[derive(Clone, Copy)]
+pub struct Groups<'a> {
+    // the mask g is bit g % 8 of byte g / 8
+    pub table: &'a [u8],
+    // the number of positions
+    pub positions: u8,
+}
