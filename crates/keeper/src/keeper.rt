@@ -8,6 +8,7 @@ ghost use Rattle.keeper.specs.Calls.{Opens, Binds, Joins, Forgets, Writes, Answe
 
 use crate::fault::KeeperFault;
 use crate::write_out::WrittenOut;
+use domain::listing::Listing;
 use domain::term::Term;
 
 // Open, bind, join and forget borrow scratch, whose contents afterwards are free. The contracts name, for all
@@ -30,15 +31,9 @@ pub trait Keeper {
         ensures binds { Binds Alike (capacity self.old) position term (length scratch.old) (told self.old) (told self.new) result }
         ensures same_capacity { capacity self.new ≡ capacity self.old };
 
-    // Joins the description with the marks and the ascending list of groups that are given.
-    fn join(
-        &mut self,
-        free: u16,
-        linear: u16,
-        groups: &[u16],
-        scratch: &mut [u8],
-    ) -> Result<(), KeeperFault>
-        ensures joins { Joins Alike (capacity self.old) free linear groups.now (length scratch.old) (told self.old) (told self.new) result }
+    // Joins the description with another.
+    fn join(&mut self, other: Listing<'_>, scratch: &mut [u8]) -> Result<(), KeeperFault>
+        ensures joins { Joins Alike (capacity self.old) other.entry.free other.entry.linear other.entry.groups.now (length scratch.old) (told self.old) (told self.new) result }
         ensures same_capacity { capacity self.new ≡ capacity self.old };
 
     // Forgets what is known of the positions of a mask.

@@ -3,4 +3,5 @@
 
 pub mod fault;
 pub mod keeper;
+pub mod question;
 pub mod write_out;

@@ -1,5 +1,6 @@
 -- A list that holds the core of a description.
 use Rattle.std.proofs.Common.{◌≡◌, ℕ, ◌+◌, ◌-◌, ◌^◌, ◌<◌, ◌≤◌, Bool, true, eqb, ltb, List, length, get_or, take, drop, None, Ok, Err, Option, sym, refl, ap, ◌∙◌, subst, arith, length-append, length-drop, length-take-le, take_at}
+use Rattle.std.specs.Option.{ForSome, ForNone}
 use Rattle.std.proofs.lemmas.Bool.{ne_eqb, le-ltb, or_from}
 use Rattle.coverage.specs.Listing.{FillsCore, WritesCore, WritesOr}
 use Rattle.coverage.proofs.Cover.{same_turned}
@@ -21,7 +22,7 @@ use Rattle.list_keeper.proofs.Listing.{test_listed, listed_test, ascend_above, a
 use Rattle.list_keeper.specs.Entries.{is_listed}
 use Rattle.list_keeper.specs.Keeping.{Kept, Stores, Shows, Laid}
 use Rattle.list_keeper.specs.Lawful.{OwnCore, Closed}
-use Rattle.list_keeper.specs.Tells.{told_by}
+use Rattle.list_keeper.specs.Tells.{tells}
 use Rattle.list_keeper.specs.declared.head.Head.{Head}
 
 -- ---- what is carried, and what is told
@@ -58,34 +59,34 @@ carried_core n gs free linear g l own =
 -- ---- what is told is its own core
 
 module _ (head : Head) (list : List ℕ) (kept : Kept head list) where
-  pub own_core : CoreList (Group (told_by head list)) (take head.count list)
+  pub own_core : CoreList (Group (tells head list)) (take head.count list)
   own_core =
       record {
         only =
             λ g l.
             let t = listed_test (take head.count list) l in
-            carried_core head.positions (take head.count list) head.free head.linear g t (kept.core g t);
+            carried_core head.marks.positions (take head.count list) head.marks.free head.marks.linear g t (kept.core g t);
         all = λ g c. test_listed (take head.count list) g c.told.told;
-        ascending = ascend_above head.positions 0 (take head.count list) kept.rising;
+        ascending = ascend_above head.marks.positions 0 (take head.count list) kept.rising;
       }
 
-  pub own_range : (g : ℕ) → Group (told_by head list) g → (0 < g) × (g < 2 ^ head.positions)
+  pub own_range : (g : ℕ) → Group (tells head list) g → (0 < g) × (g < 2 ^ head.marks.positions)
   own_range g t =
-      ascend_range head.positions 0 (take head.count list) kept.rising g (test_listed (take head.count list) g t.told)
+      ascend_range head.marks.positions 0 (take head.count list) kept.rising g (test_listed (take head.count list) g t.told)
 
   -- so the list shows it
-  pub shows : 0 < head.positions → Shows (told_by head list) list
-  shows some =
+  pub shows : Shows (tells head list) list
+  shows =
       let long : length (take head.count list) ≡ head.count = length-take-le head.count list kept.inside in
       record {
         groups = take head.count list;
         core = own_core;
         front = ap (λ (n : ℕ). take n list) long;
-        zero = λ i h. kept.cleared some i (omega arith);
+        zero = λ i h. kept.cleared i (omega arith);
       }
 
-  pub laid : (before : List ℕ) → (head.positions ≡ 0 → list ≡ before) → Laid head before list
-  laid before same = (same, shows)
+pub laid : (head : Option Head) (list before : List ℕ) → ForSome head (λ h. Kept h list) → ForNone head (list ≡ before) → Laid head before list
+laid head list before kept same = (same, λ h is. shows h list (kept h is))
 
 -- ---- a core that is stored
 
@@ -95,7 +96,7 @@ open_passes n some few =
     (or_from (eqb n 0) (ltb 12 n) (ne_eqb n 0 (λ e. omega arith)) (le-ltb 12 n (omega arith)))
 
 -- the list is long enough for what was written at its start
-fills_inside : {G : ℕ → Type 0} (list list' : List ℕ) (count : ℕ) → FillsCore G list list' count → length list' ≡ length list → count ≤ length list
+pub fills_inside : {G : ℕ → Type 0} (list list' : List ℕ) (count : ℕ) → FillsCore G list list' count → length list' ≡ length list → count ≤ length list
 fills_inside list list' count w same =
     let long : length list' ≡ length w.groups + (length list - count) =
     ap length w.at_start ∙ length-append w.groups (drop count list) ∙ ap (λ (k : ℕ). length w.groups + k) (length-drop count list) in
@@ -107,16 +108,16 @@ module _ (marks : Marks) (table list list' list'' : List ℕ) (count : ℕ) (som
     (front : take count list'' ≡ take count list') (zero' : (i : ℕ) → count ≤ i → get_or list'' i 0 ≡ 0) where
   -- the new head
   abbrev new_head : Head
-  new_head = record { positions = marks.positions; count = count; free = marks.free; linear = marks.linear }
+  new_head = record { marks = marks; count = count }
 
   groups_are : take count list'' ≡ fills.groups
   groups_are =
       front ∙ ap (λ (l : List ℕ). take count l) fills.at_start ∙ take_at fills.groups (drop count list) count (sym fills.counted)
 
-  is_core_lem : (g : ℕ) → Group (told_by new_head list'') g → Core (Group (told_with marks table)) g
+  is_core_lem : (g : ℕ) → Group (tells new_head list'') g → Core (Group (told_with marks table)) g
   is_core_lem g t = fills.core.only g (subst (λ (l : List ℕ). Listed g l) groups_are (test_listed (take count list'') g t.told))
 
-  of_core : (g : ℕ) → Core (Group (told_with marks table)) g → Group (told_by new_head list'') g
+  of_core : (g : ℕ) → Core (Group (told_with marks table)) g → Group (tells new_head list'') g
   of_core g c =
       record { told = listed_test (take count list'') (subst (λ (l : List ℕ). Listed g l) (sym groups_are) (fills.core.all g c)) }
 
@@ -129,6 +130,7 @@ module _ (marks : Marks) (table list list' list'' : List ℕ) (count : ℕ) (som
   pub stored_kept : Kept new_head list''
   stored_kept =
       record {
+        some = some;
         few = few;
         inside = (let h = fills_inside list list' count fills same in omega arith);
         rising =
@@ -136,11 +138,11 @@ module _ (marks : Marks) (table list list' list'' : List ℕ) (count : ℕ) (som
             (above_ascend marks.positions 0 fills.groups fills.core.ascending
             (λ g l. (of_group marks.positions table marks.free marks.linear g (fills.core.only g l).told).1));
         core = own;
-        cleared = λ _. zero';
+        cleared = zero';
       }
 
-  pub stored : Stores (told_with marks table) (length list) (told_by new_head list) (told_by new_head list'') (Ok tt)
-  stored = (
+  pub stored : (before : Told) → Stores (told_with marks table) (length list) before (tells new_head list'') (Ok tt)
+  stored before = (
     record {
       groups = fills.groups;
       short = (let h = fills_inside list list' count fills same in let k = fills.counted in omega arith);

@@ -2,3 +2,4 @@ pub mod Listing
 pub mod Keeping
 pub mod Changes
 pub mod Asking
+pub mod Writing

@@ -1,21 +1,23 @@
 -- What the inner functions of a list keeper promise.
-use Rattle.std.specs.Prelude.{◌≡◌, ℕ, ◌<◌, ◌≤◌, List, length, take, Ok, Err, Result, slice_index}
+use Rattle.std.specs.Prelude.{◌≡◌, ℕ, ◌<◌, ◌≤◌, List, length, take, Ok, Err, Option, Result, slice_index}
+use Rattle.std.specs.Option.{ForSome, ForNone}
 use Rattle.domain.specs.Coverage.{Core, CoreFits, CoreList}
 use Rattle.domain.specs.Told.{Told, Group}
 use Rattle.domain.specs.declared.refusal.Refusal.TheVariants.{Capacity}
 use Rattle.keeper.specs.Calls.{fault_of}
 use Rattle.keeper.specs.declared.fault.KeeperFault.{KeeperFault}
 use Rattle.list_keeper.specs.Lawful.{Few, Inside, Rising, OwnCore, Cleared}
-use Rattle.list_keeper.specs.Tells.{told_by}
+use Rattle.list_keeper.specs.Tells.{tells}
 use Rattle.list_keeper.specs.declared.head.Head.{Head}
 
--- the rules of the keeper hold of a head and a list
+-- the rules of an opened keeper hold of a head and a list
 pub record Kept (head : Head) (list : List ℕ) : Type 0 where
-  pub few : Few head.positions
+  pub some : 0 < head.marks.positions
+  pub few : Few head.marks.positions
   pub inside : Inside head.count list
-  pub rising : Rising head.positions head.count list
+  pub rising : Rising head.marks.positions head.count list
   pub core : OwnCore head.count list
-  pub cleared : Cleared head.positions head.count list
+  pub cleared : Cleared head.count list
 
 -- what is told afterwards is the core of e, with its masks
 pub record TellsCore (e after : Told) : Type 0 where
@@ -39,5 +41,5 @@ pub record Shows (d : Told) (list : List ℕ) : Type 0 where
   pub zero : (i : ℕ) → length groups ≤ i → slice_index list i ≡ 0
 
 -- while the keeper is not opened its list stays as it was; from then on it shows what is told
-abbrev pub Laid : Head → List ℕ → List ℕ → Type 0
-Laid head before after = (head.positions ≡ 0 → after ≡ before) × (0 < head.positions → Shows (told_by head after) after)
+abbrev pub Laid : Option Head → List ℕ → List ℕ → Type 0
+Laid head before after = ForNone head (after ≡ before) × ForSome head (λ h. Shows (tells h after) after)

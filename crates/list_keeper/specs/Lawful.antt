@@ -31,6 +31,6 @@ Closed gs g = (p q : ℕ) → Digit p g → Digit q g → Open gs g p q → ⊥
 abbrev pub OwnCore : ℕ → List ℕ → Type 0
 OwnCore count list = (g : ℕ) → is_listed (take count list) g ≡ true → Closed (take count list) g → ⊥
 
--- once the keeper is opened, the entries behind the core are 0
-abbrev pub Cleared : ℕ → ℕ → List ℕ → Type 0
-Cleared positions count list = 0 < positions → (i : ℕ) → count ≤ i → slice_index list i ≡ 0
+-- the entries behind the core are 0
+abbrev pub Cleared : ℕ → List ℕ → Type 0
+Cleared count list = (i : ℕ) → count ≤ i → slice_index list i ≡ 0

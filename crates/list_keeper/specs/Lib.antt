@@ -2,3 +2,4 @@ pub mod Entries
 pub mod Lawful
 pub mod Tells
 pub mod Keeping
+pub mod Working

@@ -1,20 +1,30 @@
 // The calls of a list keeper.
-ghost use Rattle.std.specs.Prelude.{◌≡◌, length};
+ghost use Rattle.std.specs.Prelude.{◌≡◌, length, take, Some, None, IfOk, IfErr};
+ghost use Rattle.domain.specs.Binding.{Bound};
 ghost use Rattle.domain.specs.Coverage.{Alike};
-ghost use Rattle.keeper.specs.Calls.{Opens, Binds, Joins, Forgets};
-ghost use Rattle.list_keeper.specs.Keeping.{Laid};
+ghost use Rattle.domain.specs.Forgetting.{Forgotten};
+ghost use Rattle.domain.specs.Joining.{Joined};
+ghost use Rattle.domain.specs.Requests.{bind_tests, join_tests, forget_tests};
+ghost use Rattle.domain.specs.declared.refusal.Refusal.TheVariants.{Order};
+ghost use Rattle.keeper.specs.Calls.{Opens, Binds, Joins, Forgets, fault_of};
+ghost use Rattle.list_keeper.specs.Keeping.{Kept, Laid};
 ghost use Rattle.list_keeper.specs.Tells.{told_by};
+ghost use Rattle.rules.specs.Working.{RuleGives};
 
 use crate::ListKeeper;
-use crate::change::{bind_list, forget_list, join_list, open_list};
+use crate::change::{change_list, open_list};
 use crate::entries::{copy_to, some_holds};
 use crate::head::Head;
-use coverage::window::is_in;
+use domain::count::check_position;
+use domain::listing::Listing;
+use domain::marks::Marks;
+use domain::mask::has;
 use domain::refusal::Refusal;
 use domain::term::Term;
 use keeper::fault::KeeperFault;
 use keeper::keeper::Keeper;
 use keeper::write_out::WrittenOut;
+use rules::lent::{bind_table, forget_table, join_table};
 
 impl<'a> ListKeeper<'a> {
     // A keeper over a list, not opened yet. The list stays as it is.
@@ -23,13 +33,25 @@ impl<'a> ListKeeper<'a> {
         ensures lent { result.list.ghost_name ≡ list.entry.ghost_name }
         ensures same { result.list.now ≡ list.old }
     {
-        let head = Head {
-            positions: 0,
-            count: 0,
-            free: 0,
-            linear: 0,
-        };
-        ListKeeper { head, list }
+        ListKeeper { head: None, list }
+    }
+
+    // What it knows, once it is opened.
+    fn opened(&self) -> Result<Head, KeeperFault>
+        ensures head { IfOk result (λ h. self.now.head ≡ Some h) }
+        ensures kept { IfOk result (λ h. Kept h self.now.list.now) }
+        ensures order { IfErr result (λ fault. (self.now.head ≡ None) × (fault ≡ fault_of Order)) }
+    {
+        self.head.ok_or(Refusal::Order.into())
+    }
+
+    // The core groups, at the start of the list.
+    fn groups(&self, head: Head) -> &[u16]
+        requires { self.now.head ≡ Some head }
+        ensures groups { result.now ≡ take head.count self.now.list.now }
+        ensures count { length result.now ≡ head.count }
+    {
+        &self.list[..head.count]
     }
 }
 
@@ -54,24 +76,37 @@ impl Keeper for ListKeeper<'_> {
         ensures lent { self.new.list.ghost_name ≡ self.old.list.ghost_name }
         ensures laid { Laid self.new.head self.old.list.now self.new.list.now }
     {
+        let rule = |table: &mut [u8], marks: Marks| -> Result<Marks, Refusal>
+            ensures { RuleGives (λ n size. bind_tests n position term size) (λ d e. Bound d position term e) marks table.old result table.new }
+        { bind_table(table, marks, position, term) };
         let ListKeeper { head, list } = self;
-        bind_list(head, list, position, term, scratch)
+        change_list(head, list, scratch, rule)
     }
 
-    fn join(
-        &mut self,
-        free: u16,
-        linear: u16,
-        groups: &[u16],
-        scratch: &mut [u8],
-    ) -> Result<(), KeeperFault>
-        ensures joins { Joins Alike (length self.old.list.now) free linear groups.now (length scratch.old) (told_by self.old.head self.old.list.now) (told_by self.new.head self.new.list.now) result }
+    fn join(&mut self, other: Listing<'_>, scratch: &mut [u8]) -> Result<(), KeeperFault>
+        ensures joins { Joins Alike (length self.old.list.now) other.entry.free other.entry.linear other.entry.groups.now (length scratch.old) (told_by self.old.head self.old.list.now) (told_by self.new.head self.new.list.now) result }
         ensures same_capacity { length self.new.list.now ≡ length self.old.list.now }
         ensures lent { self.new.list.ghost_name ≡ self.old.list.ghost_name }
         ensures laid { Laid self.new.head self.old.list.now self.new.list.now }
     {
+        // the clauses of a closure can name what it captures one by one
+        let Listing {
+            free,
+            linear,
+            groups,
+        } = other;
+        let rule = |table: &mut [u8], marks: Marks| -> Result<Marks, Refusal>
+            ensures { RuleGives (λ n size. join_tests n free linear groups.entry.now size) (λ d e. Joined d free linear groups.entry.now e) marks table.old result table.new }
+        {
+            let other = Listing {
+                free,
+                linear,
+                groups,
+            };
+            join_table(table, marks, other)
+        };
         let ListKeeper { head, list } = self;
-        join_list(head, list, free, linear, groups, scratch)
+        change_list(head, list, scratch, rule)
     }
 
     fn forget(&mut self, mask: u16, scratch: &mut [u8]) -> Result<(), KeeperFault>
@@ -80,64 +115,48 @@ impl Keeper for ListKeeper<'_> {
         ensures lent { self.new.list.ghost_name ≡ self.old.list.ghost_name }
         ensures laid { Laid self.new.head self.old.list.now self.new.list.now }
     {
+        let rule = |table: &mut [u8], marks: Marks| -> Result<Marks, Refusal>
+            ensures { RuleGives (λ n size. forget_tests n mask size) (λ d e. Forgotten d mask e) marks table.old result table.new }
+        { forget_table(table, marks, mask) };
         let ListKeeper { head, list } = self;
-        forget_list(head, list, mask, scratch)
+        change_list(head, list, scratch, rule)
     }
 
     fn is_ground(&self, position: u8) -> Result<bool, KeeperFault> {
-        if self.head.positions == 0 {
-            return Err(Refusal::Order.into());
-        }
-        if position >= self.head.positions {
-            return Err(Refusal::Position.into());
-        }
-        let groups = &self.list[0..self.head.count];
-        Ok(!some_holds(groups, position, position))
+        let head = self.opened()?;
+        check_position(head.marks.positions, position)?;
+        Ok(!some_holds(self.groups(head), position, position))
     }
 
     fn is_free(&self, position: u8) -> Result<bool, KeeperFault> {
-        if self.head.positions == 0 {
-            return Err(Refusal::Order.into());
-        }
-        if position >= self.head.positions {
-            return Err(Refusal::Position.into());
-        }
-        Ok(is_in(position, self.head.free))
+        let head = self.opened()?;
+        check_position(head.marks.positions, position)?;
+        Ok(has(head.marks.free, position))
     }
 
     fn is_linear(&self, position: u8) -> Result<bool, KeeperFault> {
-        if self.head.positions == 0 {
-            return Err(Refusal::Order.into());
-        }
-        if position >= self.head.positions {
-            return Err(Refusal::Position.into());
-        }
-        Ok(is_in(position, self.head.linear))
+        let head = self.opened()?;
+        check_position(head.marks.positions, position)?;
+        Ok(has(head.marks.linear, position))
     }
 
     fn share(&self, p: u8, q: u8) -> Result<bool, KeeperFault> {
-        if self.head.positions == 0 {
-            return Err(Refusal::Order.into());
-        }
-        if p >= self.head.positions || q >= self.head.positions {
-            return Err(Refusal::Position.into());
-        }
-        let groups = &self.list[0..self.head.count];
-        Ok(some_holds(groups, p, q))
+        let head = self.opened()?;
+        check_position(head.marks.positions, p)?;
+        check_position(head.marks.positions, q)?;
+        Ok(some_holds(self.groups(head), p, q))
     }
 
     fn write_out(&self, list: &mut [u16]) -> Result<WrittenOut, KeeperFault> {
-        if self.head.positions == 0 {
-            return Err(Refusal::Order.into());
-        }
-        if list.len() < self.head.count {
+        let head = self.opened()?;
+        if list.len() < head.count {
             return Err(Refusal::Room.into());
         }
-        copy_to(&self.list[0..self.head.count], list);
+        copy_to(self.groups(head), list);
         Ok(WrittenOut {
-            count: self.head.count,
-            free: self.head.free,
-            linear: self.head.linear,
+            count: head.count,
+            free: head.marks.free,
+            linear: head.marks.linear,
         })
     }
 }

@@ -1,29 +1,31 @@
 // The entries of a list of groups.
 ghost use Rattle.std.specs.Prelude.{◌≡◌, ℕ, ◌≤◌, ◌++◌, length, take, drop, Decides, slice_index};
+ghost use Rattle.domain.specs.Masks.{In};
 ghost use Rattle.list_keeper.specs.Entries.{SomeHolds};
 
-use coverage::window::is_in;
+use domain::mask::has;
+
+// Does the group hold both positions?
+fn holds_both(g: u16, p: u8, q: u8) -> bool
+    ensures { Decides result (In p g × In q g) }
+{
+    has(g, p) && has(g, q)
+}
 
 // Does some entry hold both positions?
 pub(crate) fn some_holds(groups: &[u16], p: u8, q: u8) -> bool
     ensures { Decides result (SomeHolds groups.now p q) }
 {
-    for g in groups {
-        if is_in(p, *g) && is_in(q, *g) {
-            return true;
-        }
-    }
-    false
+    groups.iter().any(|g| holds_both(*g, p, q))
 }
 
 // Makes the entries from one place on 0.
 pub(crate) fn clear(list: &mut [u16], from: usize)
+    requires { from ≤ length list.old }
     ensures front { take from list.new ≡ take from list.old }
     ensures zero { (i : ℕ) → from ≤ i → slice_index list.new i ≡ 0 }
 {
-    for i in from..list.len() {
-        list[i] = 0;
-    }
+    list[from..].fill(0);
 }
 
 // Copies the groups to the start of a list that is long enough.
@@ -31,5 +33,5 @@ pub(crate) fn copy_to(groups: &[u16], list: &mut [u16])
     requires { length groups.now ≤ length list.old }
     ensures { list.new ≡ groups.now ++ drop (length groups.now) list.old }
 {
-    list[0..groups.len()].copy_from_slice(groups);
+    list[..groups.len()].copy_from_slice(groups);
 }

@@ -1,12 +1,9 @@
-// What a list keeper knows beside its list.
+// What an opened list keeper knows beside its list.
+use domain::marks::Marks;
+
 #[derive(Clone, Copy)]
 pub(crate) struct Head {
-    // the number of positions; 0 until the keeper is opened
-    pub(crate) positions: u8,
+    pub(crate) marks: Marks,
     // how many entries of the list are core groups
     pub(crate) count: usize,
-    // the mask of the free positions
-    pub(crate) free: u16,
-    // the mask of the linear ones
-    pub(crate) linear: u16,
 }

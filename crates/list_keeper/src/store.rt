@@ -1,4 +1,5 @@
 // Keeping the core of a table.
+ghost use Rattle.std.specs.Option.{ForSome, ForNone};
 ghost use Rattle.std.specs.Prelude.{◌≡◌, ◌<◌, length};
 ghost use Rattle.domain.specs.Tables.{told_with};
 ghost use Rattle.list_keeper.specs.Keeping.{Kept, Stores};
@@ -6,7 +7,7 @@ ghost use Rattle.list_keeper.specs.Tells.{told_by};
 
 use crate::entries::clear;
 use crate::head::Head;
-use coverage::listing::write_core;
+use coverage::groups::Groups;
 use domain::marks::Marks;
 use domain::refusal::Refusal;
 use keeper::fault::KeeperFault;
@@ -14,28 +15,27 @@ use keeper::fault::KeeperFault;
 // Puts the core of the table into the list, and the marks beside it. Where the core has more groups than the
 // list has room for, nothing is changed.
 pub(crate) fn store(
-    head: &mut Head,
+    head: &mut Option<Head>,
     list: &mut [u16],
     table: &[u8],
     marks: Marks,
 ) -> Result<(), KeeperFault>
     requires some { 0 < marks.positions }
     requires few { marks.positions < 13 }
-    requires kept { Kept head.old list.old }
-    ensures kept { Kept head.new list.new }
-    ensures untouched { head.new.positions ≡ 0 → list.new ≡ list.old }
+    requires kept { ForSome head.old (λ h. Kept h list.old) }
+    ensures kept { ForSome head.new (λ h. Kept h list.new) }
+    ensures untouched { ForNone head.new (list.new ≡ list.old) }
     ensures stores { Stores (told_with marks table.now) (length list.old) (told_by head.old list.old) (told_by head.new list.new) result }
 {
-    let count = match write_core(table, marks.positions, list) {
+    let groups = Groups {
+        table,
+        positions: marks.positions,
+    };
+    let count = match groups.write_core(list) {
         Ok(count) => count,
         Err(_) => return Err(Refusal::Capacity.into()),
     };
     clear(list, count);
-    *head = Head {
-        positions: marks.positions,
-        count,
-        free: marks.free,
-        linear: marks.linear,
-    };
+    *head = Some(Head { marks, count });
     Ok(())
 }

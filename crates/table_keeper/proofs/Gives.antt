@@ -1,5 +1,8 @@
 -- What a description gives, as the keeper's contracts want it.
-use Rattle.std.proofs.Common.{◌≡◌, ℕ, ◌≤◌, Bool, true, false, not, ◌||◌, eqb, ltb, is_some, Some, None, Ok, Err, Option, Result, sym, refl, ap, subst, arith, le-ltb, ne_eqb}
+use Rattle.std.proofs.Common.{◌≡◌, ℕ, ◌≤◌, Bool, true, false, not, ◌||◌, eqb, ltb, is_some, Some, None, Ok, Err, Option, Result, sym, refl, ap, subst, arith, le-ltb, ne_eqb, IsErrAnd, ◌∙◌}
+use Rattle.std.proofs.lemmas.Result.{err_from_is_err_and}
+use Rattle.coverage.proofs.Cover.{alike_refl}
+use Rattle.domain.specs.Coverage.{Alike}
 use Rattle.description.proofs.Carrying.{lawful}
 use Rattle.description.specs.Descriptions.{told}
 use Rattle.domain.specs.Opening.{New}
@@ -9,15 +12,11 @@ use Rattle.domain.specs.Told.{Told}
 use Rattle.description.specs.declared.Description.{Description}
 use Rattle.domain.specs.declared.refusal.Refusal.{Refusal}
 use Rattle.domain.specs.declared.refusal.Refusal.TheVariants.{Count, Order, Room}
+use Rattle.rules.proofs.Lending.{gave, refusal_given}
 use Rattle.keeper.specs.Calls.{Opens, Changes, Exactly, opened, fault_of}
 use Rattle.keeper.specs.declared.fault.KeeperFault.{KeeperFault}
 use Rattle.table_keeper.proofs.Fits.{fits_all}
 use Rattle.table_keeper.specs.Tells.{nothing, told_by}
-
--- a call that gives a value was refused by no test
-gave : {A : Type 0} (o : Option Refusal) (x : A) (P : A → Type 0) → Gives o (Ok x) P → (o ≡ None) × P x
-gave None x P h = (refl, h)
-gave (Some e) x P h = absurd (let q = h in let z : ◌≡◌ {A = ℕ} 0 1 = cc in omega arith)
 
 -- a keeper that holds nothing tells nothing
 unopened : (o : Option Description) → is_some o ≡ false → told_by o ≡ nothing
@@ -39,23 +38,26 @@ opens_new n scratch o d none h room =
 open_told : (d : Description) → not (opened (told d)) ≡ false
 open_told d = ap (λ (b : Bool). not (not b)) (ne_eqb d.positions 0 (λ e. let some = d.counted.0 in omega arith))
 
-refusal_given : (o : Option Refusal) (f : Refusal) (P : Description → Type 0) → Gives o (Err f) P → o ≡ Some f
-refusal_given None f P h = absurd h
-refusal_given (Some x) f P h = (let q = h in cc)
+-- where what is told is exactly what the rule gives, it is alike
+pub loosened : (o : Option Refusal) (capacity : ℕ) (Rule : Told → Type 0) (before after : Told) (r : Result (Unit {0}) KeeperFault)
+    → Changes o capacity Rule Exactly before after r → Changes o capacity Rule Alike before after r
+loosened (Some e) capacity Rule before after r h = h
+loosened None capacity Rule before after (Ok u) h = (h.0, h.1, h.2, subst (λ (x : Told). Alike h.0 x) h.3 (alike_refl))
+loosened None capacity Rule before after (Err f) h = h
 
 -- a change of the description held, which the description gives or refuses; the tests look at n alone
-module _ (Left : Told → Told → Type 0) (same : (e : Told) → Left e e) (held : Option Description) (d : Description)
-    (is : held ≡ Some d) (tests : ℕ → Option Refusal) (Rule : Told → Told → Type 0) where
+module _ (held : Option Description) (d : Description) (is : held ≡ Some d) (tests : ℕ → Option Refusal) (Rule : Told → Told → Type 0) where
   pub change_made : (e : Description) → Gives (tests d.positions) (Ok e) (λ x. Rule (told d) (told x))
-      → Changes (pick (not (opened (told_by held))) Order (tests (told_by held).n)) 4095 (Rule (told_by held)) Left (told_by held) (told e) (Ok tt)
+      → Changes (pick (not (opened (told_by held))) Order (tests (told_by held).n)) 4095 (Rule (told_by held)) Exactly (told_by held) (told e) (Ok tt)
   change_made e h =
       let g = gave (tests d.positions) e (λ x. Rule (told d) (told x)) h in
-      subst (λ (o : Option Description). Changes (pick (not (opened (told_by o))) Order (tests (told_by o).n)) 4095 (Rule (told_by o)) Left (told_by o) (told e) (Ok tt))
-      (sym is) (rw (open_told d, g.0) (told e, g.1, fits_all (told e) (lawful e), same (told e)))
+      subst (λ (o : Option Description). Changes (pick (not (opened (told_by o))) Order (tests (told_by o).n)) 4095 (Rule (told_by o)) Exactly (told_by o) (told e) (Ok tt))
+      (sym is) (rw (open_told d, g.0) (told e, g.1, fits_all (told e) (lawful e), refl))
 
-  pub change_refused : (f : Refusal) (r : Result (Unit {0}) KeeperFault) → r ≡ Err (fault_of f)
+  pub change_refused : (f : Refusal) (r : Result (Unit {0}) KeeperFault) → IsErrAnd r (λ x. x ≡ fault_of f)
       → Gives (tests d.positions) (Err f) (λ x. Rule (told d) (told x))
-      → Changes (pick (not (opened (told_by held))) Order (tests (told_by held).n)) 4095 (Rule (told_by held)) Left (told_by held) (told_by held) r
+      → Changes (pick (not (opened (told_by held))) Order (tests (told_by held).n)) 4095 (Rule (told_by held)) Exactly (told_by held) (told_by held) r
   change_refused f r e h =
-      subst (λ (o : Option Description). Changes (pick (not (opened (told_by o))) Order (tests (told_by o).n)) 4095 (Rule (told_by o)) Left (told_by o) (told_by o) r)
-      (sym is) (rw (open_told d, refusal_given (tests d.positions) f (λ x. Rule (told d) (told x)) h) (e, refl))
+      let p = err_from_is_err_and r e in
+      subst (λ (o : Option Description). Changes (pick (not (opened (told_by o))) Order (tests (told_by o).n)) 4095 (Rule (told_by o)) Exactly (told_by o) (told_by o) r)
+      (sym is) (rw (open_told d, refusal_given (tests d.positions) f (λ x. Rule (told d) (told x)) h) (p.1 ∙ ap (λ (x : KeeperFault). Err x) p.2, refl))

@@ -1,11 +1,13 @@
-ghost use Rattle.std.specs.Prelude.{◌≡◌, ℕ, length};
+ghost use Rattle.std.specs.Prelude.{◌≡◌, ℕ, length, Some, None, IfOk, IfErr};
 ghost use Rattle.domain.specs.Coverage.{Alike};
-ghost use Rattle.keeper.specs.Calls.{Binds, Joins, Forgets, Exactly};
+ghost use Rattle.domain.specs.declared.refusal.Refusal.TheVariants.{Order};
+ghost use Rattle.keeper.specs.Calls.{Binds, Joins, Forgets, Exactly, fault_of};
 ghost use Rattle.table_keeper.specs.Tells.{told_by, nothing};
 
 use crate::TableKeeper;
-use coverage::listing::write_core;
+use coverage::groups::Groups;
 use description::Description;
+use domain::listing::Listing;
 use domain::refusal::Refusal;
 use domain::term::Term;
 use keeper::fault::KeeperFault;
@@ -18,6 +20,14 @@ impl TableKeeper {
         ensures { told_by result.held ≡ nothing }
     {
         TableKeeper { held: None }
+    }
+
+    // The description held, once the keeper is opened.
+    fn opened(&self) -> Result<&Description, KeeperFault>
+        ensures held { IfOk result (λ held. self.now.held ≡ Some held.now) }
+        ensures order { IfErr result (λ fault. (self.now.held ≡ None) × (fault ≡ fault_of Order)) }
+    {
+        self.held.as_ref().ok_or(Refusal::Order.into())
     }
 }
 
@@ -46,29 +56,17 @@ impl Keeper for TableKeeper {
         ensures same_capacity { ◌≡◌ {A = ℕ} 4095 4095 }
         ensures exactly { Binds Exactly 4095 position term (length scratch.old) (told_by self.old.held) (told_by self.new.held) result }
     {
-        let held = match &self.held {
-            Some(held) => held.bind(position, term, scratch)?,
-            None => return Err(Refusal::Order.into()),
-        };
+        let held = self.opened()?.bind(position, term, scratch)?;
         self.held = Some(held);
         Ok(())
     }
 
-    fn join(
-        &mut self,
-        free: u16,
-        linear: u16,
-        groups: &[u16],
-        scratch: &mut [u8],
-    ) -> Result<(), KeeperFault>
-        ensures joins { Joins Alike 4095 free linear groups.now (length scratch.old) (told_by self.old.held) (told_by self.new.held) result }
+    fn join(&mut self, other: Listing<'_>, scratch: &mut [u8]) -> Result<(), KeeperFault>
+        ensures joins { Joins Alike 4095 other.entry.free other.entry.linear other.entry.groups.now (length scratch.old) (told_by self.old.held) (told_by self.new.held) result }
         ensures same_capacity { ◌≡◌ {A = ℕ} 4095 4095 }
-        ensures exactly { Joins Exactly 4095 free linear groups.now (length scratch.old) (told_by self.old.held) (told_by self.new.held) result }
+        ensures exactly { Joins Exactly 4095 other.entry.free other.entry.linear other.entry.groups.now (length scratch.old) (told_by self.old.held) (told_by self.new.held) result }
     {
-        let held = match &self.held {
-            Some(held) => held.join(free, linear, groups, scratch)?,
-            None => return Err(Refusal::Order.into()),
-        };
+        let held = self.opened()?.join(other, scratch)?;
         self.held = Some(held);
         Ok(())
     }
@@ -78,53 +76,38 @@ impl Keeper for TableKeeper {
         ensures same_capacity { ◌≡◌ {A = ℕ} 4095 4095 }
         ensures exactly { Forgets Exactly 4095 mask (length scratch.old) (told_by self.old.held) (told_by self.new.held) result }
     {
-        let held = match &self.held {
-            Some(held) => held.forget(mask, scratch)?,
-            None => return Err(Refusal::Order.into()),
-        };
+        let held = self.opened()?.forget(mask, scratch)?;
         self.held = Some(held);
         Ok(())
     }
 
     fn is_ground(&self, position: u8) -> Result<bool, KeeperFault> {
-        match &self.held {
-            Some(held) => Ok(held.is_ground(position)?),
-            None => Err(Refusal::Order.into()),
-        }
+        Ok(self.opened()?.is_ground(position)?)
     }
 
     fn is_free(&self, position: u8) -> Result<bool, KeeperFault> {
-        match &self.held {
-            Some(held) => Ok(held.is_free(position)?),
-            None => Err(Refusal::Order.into()),
-        }
+        Ok(self.opened()?.is_free(position)?)
     }
 
     fn is_linear(&self, position: u8) -> Result<bool, KeeperFault> {
-        match &self.held {
-            Some(held) => Ok(held.is_linear(position)?),
-            None => Err(Refusal::Order.into()),
-        }
+        Ok(self.opened()?.is_linear(position)?)
     }
 
     fn share(&self, p: u8, q: u8) -> Result<bool, KeeperFault> {
-        match &self.held {
-            Some(held) => Ok(held.share(p, q)?),
-            None => Err(Refusal::Order.into()),
-        }
+        Ok(self.opened()?.share(p, q)?)
     }
 
     fn write_out(&self, list: &mut [u16]) -> Result<WrittenOut, KeeperFault> {
-        match &self.held {
-            Some(held) => {
-                let count = write_core(held.table(), held.positions(), list)?;
-                Ok(WrittenOut {
-                    count,
-                    free: held.free_mask(),
-                    linear: held.linear_mask(),
-                })
-            }
-            None => Err(Refusal::Order.into()),
-        }
+        let held = self.opened()?;
+        let groups = Groups {
+            table: held.table(),
+            positions: held.positions(),
+        };
+        let count = groups.write_core(list)?;
+        Ok(WrittenOut {
+            count,
+            free: held.free_mask(),
+            linear: held.linear_mask(),
+        })
     }
 }

@@ -1,6 +1,7 @@
 // Binds, joins and forgets worked out by hand, compared by their cores.
-use coverage::listing::write_core;
+use coverage::groups::Groups;
 use description::Description;
+use domain::listing::Listing;
 use domain::term::Term;
 use std::process::Abort;
 use std::test::Fail;
@@ -14,7 +15,11 @@ fn is_told(
     linear: u16,
 ) -> Result<(), Fail> {
     let mut list = [0u16; 16];
-    let count = write_core(d.table(), d.positions(), &mut list)?;
+    let held = Groups {
+        table: d.table(),
+        positions: d.positions(),
+    };
+    let count = held.write_core(&mut list)?;
     assert!(rt; count == groups.len());
     for (i, g) in groups.iter().enumerate() {
         assert!(rt; list.get(i).copied() == Some(*g));
@@ -53,7 +58,14 @@ fn binds_of_two_positions(rt: HostRuntime) -> Result<(), Fail> {
     is_told(&rt, &bound.bind(1, term(0, 0), &mut scratch)?, &[], 0, 3)?;
     is_told(
         &rt,
-        &bound.join(3, 3, &[1, 2], &mut scratch)?,
+        &bound.join(
+            Listing {
+                free: 3,
+                linear: 3,
+                groups: &[1, 2],
+            },
+            &mut scratch,
+        )?,
         &[1, 2, 3],
         3,
         3,

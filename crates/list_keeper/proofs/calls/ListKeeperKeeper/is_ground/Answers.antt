@@ -1,16 +1,13 @@
-use Rattle.std.proofs.Common.{◌≡◌, ℕ, ◌-◌, ◌<◌, take, Decides, subst, arith}
-use Rattle.list_keeper.proofs.Asking.{answer_ask, decides_ground}
-use Rattle.list_keeper.specs.Entries.{SomeHolds}
-use Rattle.list_keeper.specs.Tells.{told_by}
+use Rattle.std.proofs.Common.{◌<◌}
+use Rattle.rules.proofs.Lending.{gave}
+use Rattle.list_keeper.proofs.Asking.{ground_answered}
 use Rattle.list_keeper.proofs.calls.ListKeeperKeeper.is_ground.Goals as goal
 
 pub returns : goal.returns
 returns c =
-    let head = c.args.self.now.head in
-    let list = c.args.self.now.list.now in
-    let p = c.args.position in
-    let whole : head.count - 0 ≡ head.count = omega arith in
-    let some : 0 < head.positions = omega (arith, c.if-self-eq0.false) in
-    answer_ask (told_by head list) p _ _ some c.if-position-self.false
-    (decides_ground head list p c.if-position-self.false c.some_holds.result
-    (subst (λ (n : ℕ). Decides c.some_holds.result (SomeHolds (take n list) p p)) whole c.some_holds.ensures))
+    let k = c.args.self.now in
+    let head = c.in_ok-head.head in
+    let is = c.in_ok-head.ensures.head in
+    let low = (gave _ _ (λ u. c.args.position < head.marks.positions) c.in_ok-check_position.ensures).1 in
+    ground_answered k.head head k.list.now is c.in_ok-head.ensures.kept.some c.args.position low c.groups.result.now c.groups.ensures.groups
+    c.some_holds.result c.some_holds.ensures

@@ -1,17 +1,14 @@
-use Rattle.std.proofs.Common.{◌≡◌, ℕ, ◌-◌, ◌<◌, take, Decides, subst, arith}
-use Rattle.list_keeper.proofs.Asking.{answer_pair, decides_share}
-use Rattle.list_keeper.specs.Entries.{SomeHolds}
-use Rattle.list_keeper.specs.Tells.{told_by}
+use Rattle.std.proofs.Common.{◌<◌}
+use Rattle.rules.proofs.Lending.{gave}
+use Rattle.list_keeper.proofs.Asking.{share_answered}
 use Rattle.list_keeper.proofs.calls.ListKeeperKeeper.share.Goals as goal
 
 pub returns : goal.returns
 returns c =
-    let head = c.args.self.now.head in
-    let list = c.args.self.now.list.now in
-    let p = c.args.p in
-    let q = c.args.q in
-    let whole : head.count - 0 ≡ head.count = omega arith in
-    let some : 0 < head.positions = omega (arith, c.if-self-eq0.false) in
-    answer_pair (told_by head list) p q _ _ some c.if-p-self.false c.if-q-self.false
-    (decides_share head list p q
-    (subst (λ (n : ℕ). Decides c.some_holds.result (SomeHolds (take n list) p q)) whole c.some_holds.ensures))
+    let k = c.args.self.now in
+    let head = c.in_ok-head.head in
+    let is = c.in_ok-head.ensures.head in
+    let low = (gave _ _ (λ u. c.args.p < head.marks.positions) c.in_ok-check_position.ensures).1 in
+    let high = (gave _ _ (λ u. c.args.q < head.marks.positions) c.in_ok-check_position-2.ensures).1 in
+    share_answered k.head head k.list.now is c.in_ok-head.ensures.kept.some c.args.p c.args.q low high c.groups.result.now c.groups.ensures.groups
+    c.some_holds.result c.some_holds.ensures

@@ -1,36 +1,18 @@
-use Rattle.std.proofs.Common.{length, Err, refl, ap, ◌∙◌}
-use Rattle.std.proofs.lemmas.Result.{err_from_is_err_and}
-use Rattle.coverage.proofs.Cover.{alike_refl}
+use Rattle.std.proofs.Common.{length, refl}
 use Rattle.domain.specs.Forgetting.{Forgotten}
-use Rattle.domain.specs.Coverage.{Alike}
 use Rattle.domain.specs.Refusals.{first_of}
 use Rattle.domain.specs.Requests.{forget_tests}
-use Rattle.keeper.specs.Calls.{Exactly}
-use Rattle.keeper.specs.declared.fault.KeeperFault.{KeeperFault}
-use Rattle.table_keeper.proofs.Gives.{change_made, change_refused}
+use Rattle.table_keeper.proofs.Gives.{change_made, change_refused, loosened}
 use Rattle.table_keeper.proofs.calls.TableKeeperKeeper.forget.Goals as goal
 
-pub returns-in_err-held-in-Some : goal.returns-in_err-held-in-Some
-returns-in_err-held-in-Some c =
-    let p = err_from_is_err_and c.from_residual.result c.from_residual.ensures.1 in
-    record {
-      forgets = change_refused Alike (λ e. alike_refl) _ c.in-Some.held c.in-Some.is
-          (λ n. first_of (forget_tests n c.args.mask (length c.args.scratch.now))) (λ d. Forgotten d c.args.mask)
-          c.in_err-held-in-Some.field-0.0 c.from_residual.result (p.1 ∙ ap (λ (x : KeeperFault). Err x) p.2) c.in_err-held-in-Some.ensures;
-      same_capacity = refl;
-      exactly = change_refused Exactly (λ e. refl) _ c.in-Some.held c.in-Some.is
-          (λ n. first_of (forget_tests n c.args.mask (length c.args.scratch.now))) (λ d. Forgotten d c.args.mask)
-          c.in_err-held-in-Some.field-0.0 c.from_residual.result (p.1 ∙ ap (λ (x : KeeperFault). Err x) p.2) c.in_err-held-in-Some.ensures;
-    }
+pub returns-in_err-held : goal.returns-in_err-held
+returns-in_err-held c =
+    let exact = change_refused _ c.in_ok-opened.field-0.now c.in_ok-opened.ensures.held (λ n. first_of (forget_tests n c.args.mask (length c.args.scratch.now))) (λ d. Forgotten d c.args.mask)
+    c.in_err-held.field-0.0 c.from_residual-in_err-held.result c.from_residual-in_err-held.ensures.1 c.in_err-held.ensures in
+    record { forgets = loosened _ _ _ _ _ _ exact; same_capacity = refl; exactly = exact }
 
 pub returns : goal.returns
 returns c =
-    record {
-      forgets = change_made Alike (λ e. alike_refl) _ c.in-Some.held c.in-Some.is
-          (λ n. first_of (forget_tests n c.args.mask (length c.args.scratch.now))) (λ d. Forgotten d c.args.mask)
-          c.in_ok-held-in-Some.held c.in_ok-held-in-Some.ensures;
-      same_capacity = refl;
-      exactly = change_made Exactly (λ e. refl) _ c.in-Some.held c.in-Some.is
-          (λ n. first_of (forget_tests n c.args.mask (length c.args.scratch.now))) (λ d. Forgotten d c.args.mask)
-          c.in_ok-held-in-Some.held c.in_ok-held-in-Some.ensures;
-    }
+    let exact = change_made _ c.in_ok-opened.field-0.now c.in_ok-opened.ensures.held (λ n. first_of (forget_tests n c.args.mask (length c.args.scratch.now))) (λ d. Forgotten d c.args.mask)
+    c.in_ok-held.held c.in_ok-held.ensures in
+    record { forgets = loosened _ _ _ _ _ _ exact; same_capacity = refl; exactly = exact }

@@ -1,0 +1,28 @@
+// Questions to a keeper, as values.
+ghost use Rattle.keeper.specs.Questions.{Asks};
+
+use crate::fault::KeeperFault;
+use crate::keeper::Keeper;
+
+// A question, with the positions that it is about.
+#[derive(Clone, Copy, PartialEq, Eq, Debug)]
+pub enum Question {
+    Ground(u8),
+    Free(u8),
+    Linear(u8),
+    Pair(u8, u8),
+}
+
+impl Question {
+    // The keeper's answer.
+    pub fn ask<K: Keeper>(self, keeper: &K) -> Result<bool, KeeperFault>
+        ensures { Asks (K.Keeper.told keeper.now) self result }
+    {
+        match self {
+            Question::Ground(p) => keeper.is_ground(p),
+            Question::Free(p) => keeper.is_free(p),
+            Question::Linear(p) => keeper.is_linear(p),
+            Question::Pair(p, q) => keeper.share(p, q),
+        }
+    }
+}
