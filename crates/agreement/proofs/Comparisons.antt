@@ -1,5 +1,5 @@
 -- What two write-outs say of two descriptions.
-use Rattle.std.proofs.Common.{◌≡◌, ℕ, ◌≤◌, Bool, true, false, List, length, take, drop, Ok, Err, Decides, Result, sym, refl, ap, ◌∙◌, subst, arith, take_at}
+use Rattle.std.proofs.Common.{◌≡◌, ℕ, Bool, true, false, List, length, take, drop, Ok, Err, Decides, Result, sym, refl, ap, ◌∙◌, subst, arith, take_at}
 use Rattle.coverage.proofs.CoreLeast.{core_kept, same_core}
 use Rattle.coverage.proofs.Cover.{same_turned}
 use Rattle.domain.specs.Coverage.{Listed}
@@ -80,9 +80,3 @@ module _ (s t : Told) (first first' second second' : List ℕ) (w v : WrittenOut
         written = h;
         rest = (Ok v, k, (b, refl, ((λ e. same_to (d.0 refl) (g.0 e)), λ m. g.1 (same_from m).1)));
       }
-
-  pub count_first : length first' ≡ length first → w.count ≤ length first'
-  count_first long = (let a = h.3.2 in let b = h.3.3 in omega arith)
-
-  pub count_second : w ≡ v → length second' ≡ length second → w.count ≤ length second'
-  count_second e long = (let a = k.3.2 in let b = k.3.3 in let c : w.count ≡ v.count = ap (λ (x : WrittenOut). x.count) e in omega arith)

@@ -5,8 +5,6 @@ pub mod Reckoned
 pub mod Rules
 pub mod ToldApart
 pub mod LeastLists
-pub mod Prefixes
 pub mod Comparisons
 pub mod Unique
-pub mod Giving
 pub mod Holding

@@ -1,33 +1,24 @@
 // The calls of an opened keeper and its answers, as values.
-use domain::refusal::Refusal;
+use domain::listing::Listing;
 use domain::term::Term;
+use keeper::question::Question;
 use keeper::write_out::WrittenOut;
 
 // A call, with its arguments. The memory that it borrows to work in is lent when it is given.
 #[derive(Clone, Copy)]
 pub enum KeeperCall<'a> {
-    Bind {
-        position: u8,
-        term: Term,
-    },
-    Join {
-        free: u16,
-        linear: u16,
-        groups: &'a [u16],
-    },
+    Bind { position: u8, term: Term },
+    Join(Listing<'a>),
     Forget(u16),
-    Ground(u8),
-    Free(u8),
-    Linear(u8),
-    Pair(u8, u8),
+    Ask(Question),
     WriteOut,
 }
 
-// What a keeper answers. The groups of a write-out stand at the start of the list that it was lent.
+// What a keeper answers to a call that it does not refuse. The groups of a write-out stand at the start of
+// the list that it was lent.
 #[derive(Clone, Copy, PartialEq, Eq, Debug)]
 pub enum KeeperAnswer {
     Accepted,
     Says(bool),
-    Refused(Refusal),
     Wrote(WrittenOut),
 }

@@ -1,5 +1,6 @@
 // The rows of the table, run on both keepers.
 use crate::examples::write_example;
+use domain::listing::Listing;
 use domain::refusal::Refusal;
 use domain::term::Term;
 use keeper::fault::KeeperFault;
@@ -131,7 +132,14 @@ fn join_and_forget(rt: HostRuntime) -> Result<(), Fail> {
     let mut scratch = [0; 512];
     let mut joined = TableKeeper::new();
     bind_all(&mut joined, 2, &[(0, bare(2))])?;
-    joined.join(3, 3, &[1, 2], &mut scratch)?;
+    joined.join(
+        Listing {
+            free: 3,
+            linear: 3,
+            groups: &[1, 2],
+        },
+        &mut scratch,
+    )?;
     is_written(&rt, &joined, shown(&[1, 2, 3], 3, 3))?;
     let mut forgot = TableKeeper::new();
     bind_all(&mut forgot, 2, &[(0, bare(2))])?;

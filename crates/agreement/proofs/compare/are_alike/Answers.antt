@@ -1,7 +1,7 @@
-use Rattle.std.proofs.Common.{Err, refl, ap, ◌∙◌}
+use Rattle.std.proofs.Common.{Err, ap, ◌∙◌, rules}
 use Rattle.std.proofs.lemmas.Result.{err_from_is_err_and}
 use Rattle.keeper.specs.declared.fault.KeeperFault.{KeeperFault}
-use Rattle.agreement.proofs.Comparisons.{compared_first, compared_second, compared_apart, compared_by, count_first, count_second}
+use Rattle.agreement.proofs.Comparisons.{compared_first, compared_second, compared_apart, compared_by}
 use Rattle.agreement.proofs.ToldApart.{not_told_apart}
 use Rattle.agreement.proofs.compare.are_alike.Goals as goal
 
@@ -22,24 +22,17 @@ returns-in_err-two g c =
       not_told_apart = λ e. not_told_apart _ _ _;
     }
 
-pub same_groups-requires : goal.same_groups-requires
-same_groups-requires g c = (
-  count_first _ _ _ _ _ _ c.in_ok-one.one c.in_ok-two.two c.in_ok-one.ensures c.in_ok-two.ensures c.write_out.auto.list,
-  count_second _ _ _ _ _ _ c.in_ok-one.one c.in_ok-two.two c.in_ok-one.ensures c.in_ok-two.ensures
-      (c.if-not-same_answer.ensures.0 refl) c.write_out-2.auto.list,
-)
-
-pub returns-then-not-same_answer : goal.returns-then-not-same_answer
-returns-then-not-same_answer g c =
+pub returns-then-eq : goal.returns-then-eq
+returns-then-eq g c =
     record {
-      compared = compared_apart _ _ _ _ _ _ c.in_ok-one.one c.in_ok-two.two c.in_ok-one.ensures c.in_ok-two.ensures c.if-not-same_answer.ensures;
+      compared = compared_by _ _ _ _ _ _ c.in_ok-one.one c.in_ok-two.two c.in_ok-one.ensures c.in_ok-two.ensures
+          c.eq-then-eq.result (search rules) (search rules);
       not_told_apart = λ e. not_told_apart _ _ _;
     }
 
-pub returns : goal.returns
-returns g c =
+pub returns-else-eq : goal.returns-else-eq
+returns-else-eq g c =
     record {
-      compared = compared_by _ _ _ _ _ _ c.in_ok-one.one c.in_ok-two.two c.in_ok-one.ensures c.in_ok-two.ensures
-          c.same_groups.result c.if-not-same_answer.ensures c.same_groups.ensures;
+      compared = rw c.if-eq.false (compared_apart _ _ _ _ _ _ c.in_ok-one.one c.in_ok-two.two c.in_ok-one.ensures c.in_ok-two.ensures (search rules));
       not_told_apart = λ e. not_told_apart _ _ _;
     }
