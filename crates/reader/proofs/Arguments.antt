@@ -1,19 +1,20 @@
 -- The loop over a compound's terms: what is still to be read, gathered onto what has been read.
-use Rattle.std.proofs.Common.{◌≡◌, ℕ, zero, suc, ◌+◌, ◌-◌, ◌<◌, ◌≤◌, false, eqb, List, Ok, Err, sym, refl, ap, ◌∙◌, arith}
+use Rattle.std.proofs.Common.{◌≡◌, ℕ, zero, suc, ◌-◌, ◌<◌, ◌≤◌, false, eqb, List, Ok, Err, sym, refl, ap, ◌∙◌, arith}
 use Rattle.std.proofs.lemmas.Bool.{ne_eqb, eq-eqb}
 use Rattle.domain.specs.declared.term.Term.{Term}
 use Rattle.sheet.specs.declared.fault.ReaderFault.{ReaderFault}
 use Rattle.reader.specs.declared.record.Record.{Record}
 use Rattle.domain.specs.declared.refusal.Refusal.TheVariants.{Depth}
 use Rattle.reader.specs.Reading.{Read, ◌>>=◌, fault}
-use Rattle.reader.specs.Records.{record_at, payload}
+use Rattle.reader.specs.Records.{record_at}
 use Rattle.reader.specs.Terms.{Tree, Args, compound, none, more, summary, nothing, beside}
 use Rattle.reader.specs.Trees.{args_by, args_of, compound_of, tree_of, summed, onto}
 
 -- what the terms from a place on make of what is gathered so far is the whole
-abbrev pub From : List ℕ → (Record → Read Tree) → Term → ℕ → ℕ → Read Term → Type 0
-From bytes tree all at end whole =
-    (turns : ℕ) × (end - at ≤ turns) × (onto all (args_by bytes tree turns at end) ≡ whole)
+pub record From (bytes : List ℕ) (tree : Record → Read Tree) (all : Term) (at end : ℕ) (whole : Read Term) : Type 0 where
+  pub turns : ℕ
+  pub enough : end - at ≤ turns
+  pub gathers : onto all (args_by bytes tree turns at end) ≡ whole
 
 onto_more : (t : Tree) (all : Term) (read : Read Args) → onto all (read >>= λ ts. Ok (more t ts)) ≡ onto (beside all (summary t)) read
 onto_more t all (Ok ts) = refl
@@ -50,16 +51,16 @@ module _ (bytes : List ℕ) (tree : Record → Read Tree) where
   unfolding args_by
   args_turn turns at end h = let e : eqb at end ≡ false = ne_eqb at end (omega arith) in rw (e, args_by) refl
 
-  pub from_start : (r : Record) → From bytes tree nothing (r.start + 2) r.end (onto nothing (args_of bytes tree r))
-  from_start r = (payload r, omega arith, refl)
-
   module _ (all : Term) (at end : ℕ) (whole : Read Term) where
     pub from_end : at ≡ end → From bytes tree all at end whole → Ok all ≡ whole
-    from_end e (turns, _, h) = sym (ap (onto all) (args_done turns end)) ∙ (rw e at h)
+    from_end e from = sym (ap (onto all) (args_done from.turns end)) ∙ (rw e at from.gathers)
+
+    turned_by : at < end → (turns : ℕ) → end - at ≤ turns → onto all (args_by bytes tree turns at end) ≡ whole → (turns : ℕ) × (end - at ≤ suc turns) × (onto all (after_record turns end (record_at bytes at end)) ≡ whole)
+    turned_by lt zero enough h = absurd (omega arith)
+    turned_by lt (suc turns) enough h = (turns, enough, rw (args_turn turns at end lt) at h)
 
     turned : at < end → From bytes tree all at end whole → (turns : ℕ) × (end - at ≤ suc turns) × (onto all (after_record turns end (record_at bytes at end)) ≡ whole)
-    turned lt (zero, enough, h) = absurd (omega arith)
-    turned lt (suc turns, enough, h) = (turns, enough, rw (args_turn turns at end lt) at h)
+    turned lt from = turned_by lt from.turns from.enough from.gathers
 
     pub stop_record : (e : ReaderFault) → at < end → Err e ≡ record_at bytes at end → From bytes tree all at end whole → Err e ≡ whole
     stop_record e lt is from = let k = turned lt from in ap (λ x. onto all (after_record k.0 end x)) is ∙ k.2
@@ -81,14 +82,16 @@ module _ (bytes : List ℕ) (tree : Record → Read Tree) where
       next_at : (u : Term) (read : Read Tree) → tree r ≡ read → Ok u ≡ summed read → at < r.end → From bytes tree all at end whole → From bytes tree (beside all u) r.end end whole
       next_at u (Ok t) same is further from =
           let k = at_tree from in
-          let v : summary t ≡ u = cc in (
-            k.0,
-            omega arith,
-            ap (λ x. onto (beside all x) (args_by bytes tree k.0 r.end end)) (sym v)
+          let v : summary t ≡ u = cc in
+          record {
+            turns = k.0;
+            enough = omega arith;
+            gathers =
+                ap (λ x. onto (beside all x) (args_by bytes tree k.0 r.end end)) (sym v)
                 ∙ sym (onto_more t all (args_by bytes tree k.0 r.end end))
                 ∙ sym (ap (λ x. onto all (after_tree k.0 r.end end x)) same)
-                ∙ k.2,
-          )
+                ∙ k.2;
+          }
       next_at u (Err d) same is further from = absurd (let z : ◌≡◌ {A = ℕ} 0 1 = cc in omega arith)
 
       pub next_from : (u : Term) → Ok u ≡ summed (tree r) → at < r.end → From bytes tree all at end whole → From bytes tree (beside all u) r.end end whole

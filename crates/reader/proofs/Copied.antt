@@ -1,5 +1,5 @@
 -- The groups of a join, on the sheet and in the list that they are copied into.
-use Rattle.std.proofs.Common.{◌≡◌, ℕ, zero, suc, ◌+◌, ◌*◌, ◌<◌, List, [], ◌∷◌, ◌++◌, length, take, drop, set, sym, refl, ap, ◌∙◌, add-one, arith, drop-drop, take-suc-set, drop-set-lt}
+use Rattle.std.proofs.Common.{◌≡◌, ℕ, zero, suc, ◌+◌, ◌*◌, ◌<◌, List, [], ◌∷◌, ◌++◌, length, take, set, sym, refl, ap, ◌∙◌, add-one, arith, take-suc-set}
 use Rattle.reader.specs.Records.{pair_at, groups_at}
 
 -- one group more
@@ -17,8 +17,3 @@ copied_more bytes groups start k h e =
     (take-suc-set groups k (pair_at bytes (start + 2 * k)) h
     ∙ ap (λ (l : List ℕ). l ++ (pair_at bytes (start + 2 * k) ∷ [])) e
     ∙ sym (groups_more bytes start k))
-
--- and the entries behind it stay
-pub others_more : (present before : List ℕ) (k a : ℕ) → drop k present ≡ drop k before → drop (k + 1) (set present k a) ≡ drop (k + 1) before
-others_more present before k a e =
-    drop-set-lt (k + 1) present k a (omega arith) ∙ sym (drop-drop 1 k present) ∙ ap (drop 1) e ∙ drop-drop 1 k before

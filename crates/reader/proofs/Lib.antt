@@ -1,4 +1,3 @@
 pub mod Arguments
-pub mod Digits
 pub mod Copied
 pub mod Occurrences

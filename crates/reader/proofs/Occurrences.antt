@@ -1,54 +1,37 @@
 -- What a summary holds is what occurs in the tree.
-use Rattle.std.proofs.Common.{◌≡◌, ℕ, zero, suc, ◌+◌, ◌-◌, min, max, Bool, true, false, cond, eqb, List, IfOk, Ok, Err, refl, ◌∙◌, add-zero, add_assoc, zero-add, arith}
-use lib.Bits.{bit_and, bit_or}
+use Rattle.std.proofs.Common.{◌≡◌, ℕ, ◌+◌, ◌-◌, min, false, List, IfOk, Ok, Err, refl, add-zero, add_assoc, zero-add, arith}
+use Rattle.std.specs.Int.{bit_at}
+use Rattle.std.proofs.lemmas.Bool.Decides.{nat_tests}
+use Rattle.std.proofs.lemmas.Nat.Bits.{bit_at_and, bit_at_or, bit_at-zero, bit_at-pow_same, bit_at-pow_other}
 use Rattle.domain.specs.declared.term.Term.{Term}
 use Rattle.reader.specs.declared.record.Record.{Record}
 use Rattle.reader.specs.Reading.{Read}
 use Rattle.reader.specs.Trees.{tree_of, summed, deepest, term_of, SumsUp}
 use Rattle.reader.specs.Terms.{Tree, Args, position, constant, compound, none, more, occurrences, occurrences_in, nothing, beside, summary, gathered, is_position, Sums}
-use Rattle.reader.proofs.Digits.{digit, digit_or, digit_and, digit_zero, digit_one}
 
 -- the digits at p are those of a term that holds the position p n times
 record Counts (p n : ℕ) (t : Term) : Type 0 where
-  held : digit p t.held ≡ min 1 n
-  repeated : digit p t.repeated ≡ min 1 (n - 1)
+  held : bit_at t.held p ≡ min 1 n
+  repeated : bit_at t.repeated p ≡ min 1 (n - 1)
 
 counts_nothing : (p : ℕ) → Counts p 0 nothing
-counts_nothing p = record { held = digit_zero p; repeated = digit_zero p }
+counts_nothing p = record { held = bit_at-zero p; repeated = bit_at-zero p }
 
--- more than one in all: more than one in either, or one in both
-twice : (a b : ℕ) → max (max (min 1 (a - 1)) (min 1 (b - 1))) (min (min 1 a) (min 1 b)) ≡ min 1 (a + b - 1)
-twice zero b = omega arith
-twice (suc a) zero = omega arith
-twice (suc a) (suc b) = omega arith
-
+-- repeated in all: repeated in either, or held by both
 counts_beside : (p a b : ℕ) (s t : Term) → Counts p a s → Counts p b t → Counts p (a + b) (beside s t)
 counts_beside p a b s t cs ct =
     record {
-      held = omega (arith, digit_or p s.held t.held);
+      held = rw (bit_at_or s.held t.held p, cs.held, ct.held) (omega arith);
       repeated =
-          rw (
-            digit_or p (bit_or s.repeated t.repeated) (bit_and s.held t.held),
-            digit_or p s.repeated t.repeated,
-            digit_and p s.held t.held,
-            cs.held,
-            ct.held,
-            cs.repeated,
-            ct.repeated,
-          )
-          (twice a b);
+          rw (bit_at_or, bit_at_or, bit_at_and, cs.held, ct.held, cs.repeated, ct.repeated) (omega arith);
     }
-
-at_most_one : (b : Bool) → (cond b 1 0 ≡ min 1 (cond b 1 0)) × (0 ≡ min 1 (cond b 1 0 - 1))
-at_most_one true = (refl, refl)
-at_most_one false = (refl, refl)
 
 mutual
   counted : (tree : Tree) (p : ℕ) → Counts p (occurrences tree p) (summary tree)
   counted (position q) p =
       record {
-        held = digit_one p q ∙ (at_most_one (eqb p q)).0;
-        repeated = digit_zero p ∙ (at_most_one (eqb p q)).1;
+        held = grind (arith, nat_tests, bit_at-pow_same, bit_at-pow_other);
+        repeated = grind (arith, nat_tests, bit_at-zero);
       }
   counted (constant f) p = counts_nothing p
   counted (compound f args) p = rw zero-add at (counted_args args p 0 nothing (counts_nothing p))

@@ -1,47 +1,43 @@
 ghost use Rattle.std.specs.Prelude.{◌≡◌, ◌≤◌};
-ghost use Rattle.reader.specs.Records.{Part, payload};
+ghost use Rattle.reader.specs.Records.{payload};
 ghost use Rattle.reader.specs.Payloads.{one_of, two_of, question_of};
 
-use crate::record::Record;
+use crate::record::SheetRecord;
 use domain::refusal::Refusal;
+use keeper::question::Question;
 use sheet::fault::ReaderFault;
-use sheet::step::Question;
 
-// The question of an ask: its letter, and then the positions that the letter takes.
-pub(crate) fn read_question(sheet: &[u8], record: Record) -> Result<Question, ReaderFault>
-    requires { (Part sheet.now «record») × (2 ≤ payload «record») }
-    ensures { result ≡ question_of sheet.now «record» }
-{
-    match char::from(sheet[record.start]) {
-        'g' => Ok(Question::Ground(one_position(sheet, record)?)),
-        'f' => Ok(Question::Free(one_position(sheet, record)?)),
-        'l' => Ok(Question::Linear(one_position(sheet, record)?)),
-        'p' => {
-            let (a, b) = two_positions(sheet, record)?;
-            Ok(Question::Pair(a, b))
+impl SheetRecord<'_> {
+    // The question of an ask: its letter, and then the positions that the letter takes.
+    pub(crate) fn question(&self) -> Result<Question, ReaderFault>
+        requires { 2 ≤ payload self.now.frame }
+        ensures { result ≡ question_of self.now.sheet.now self.now.frame }
+    {
+        match char::from(self.sheet[self.frame.start]) {
+            'g' => Ok(Question::Ground(self.one_position()?)),
+            'f' => Ok(Question::Free(self.one_position()?)),
+            'l' => Ok(Question::Linear(self.one_position()?)),
+            'p' => {
+                let (a, b) = self.two_positions()?;
+                Ok(Question::Pair(a, b))
+            }
+            _ => Err(self.frame.fault(Refusal::Letter)),
         }
-        _ => Err(record.fault(Refusal::Letter)),
     }
-}
 
-fn one_position(sheet: &[u8], record: Record) -> Result<u8, ReaderFault>
-    requires { (Part sheet.now «record») × (2 ≤ payload «record») }
-    ensures { result ≡ one_of sheet.now «record» }
-{
-    if record.len() != 2 {
-        return Err(record.fault(Refusal::Length));
+    fn one_position(&self) -> Result<u8, ReaderFault>
+        ensures { result ≡ one_of self.now.sheet.now self.now.frame }
+    {
+        self.expect_len(2)?;
+        self.position_at(1)
     }
-    record.position(sheet, record.start + 1)
-}
 
-fn two_positions(sheet: &[u8], record: Record) -> Result<(u8, u8), ReaderFault>
-    requires { (Part sheet.now «record») × (2 ≤ payload «record») }
-    ensures { result ≡ two_of sheet.now «record» }
-{
-    if record.len() != 3 {
-        return Err(record.fault(Refusal::Length));
+    fn two_positions(&self) -> Result<(u8, u8), ReaderFault>
+        ensures { result ≡ two_of self.now.sheet.now self.now.frame }
+    {
+        self.expect_len(3)?;
+        let left = self.position_at(1)?;
+        let right = self.position_at(2)?;
+        Ok((left, right))
     }
-    let left = record.position(sheet, record.start + 1)?;
-    let right = record.position(sheet, record.start + 2)?;
-    Ok((left, right))
 }

@@ -12,16 +12,17 @@ pub fn copy_groups(sheet: &[u8], start: usize, count: usize, groups: &mut [u16])
     ensures stays { (start + 2 * count ≤ length sheet.now → count ≤ length groups.old → ⊥) → groups.new ≡ groups.old }
 {
     if start <= sheet.len() && count <= (sheet.len() - start) / 2 && count <= groups.len() {
-        copy(sheet, start, count, groups);
+        copy(sheet, start, &mut groups[..count]);
     }
 }
 
-fn copy(sheet: &[u8], start: usize, count: usize, groups: &mut [u16])
-    requires { (start + 2 * count ≤ length sheet.now) × (count ≤ length groups.old) }
-    ensures copied { take count groups.new ≡ groups_at sheet.now start count }
-    ensures others { drop count groups.new ≡ drop count groups.old }
+// Fills a list with the groups from a place on.
+#[tactic(auto, using(crate::proofs::Copied::copied_more))]
+fn copy(sheet: &[u8], start: usize, groups: &mut [u16])
+    requires { start + 2 * length groups.old ≤ length sheet.now }
+    ensures { groups.new ≡ groups_at sheet.now start (length groups.old) }
 {
-    for i in 0..count {
-        groups[i] = pair(sheet, start + 2 * i);
+    for (i, group) in groups.iter_mut().enumerate() {
+        *group = pair(sheet, start + 2 * i);
     }
 }

@@ -3,9 +3,8 @@ ghost use Rattle.std.specs.Prelude.{◌≡◌, ◌<◌, ◌≤◌, length, IfOk}
 ghost use Rattle.reader.specs.Following.{next_at};
 ghost use Rattle.sheet.specs.Steps.{Inside};
 
-use crate::record::Record;
+use crate::record::SheetRecord;
 use crate::state::State;
-use crate::step::{read_kind, read_step};
 use domain::refusal::Refusal;
 use sheet::fault::RunnerFault;
 use sheet::step::Step;
@@ -24,16 +23,16 @@ pub fn next_step(sheet: &[u8], state: State, at: usize) -> Result<Next, RunnerFa
     ensures within { IfOk result (λ x. (at < x.end) × (x.end ≤ length sheet.now)) }
     ensures inside { IfOk result (λ x. Inside sheet.now x.step) }
 {
-    if let State::Ended = state {
+    if state == State::Ended {
         return Err(RunnerFault::Runner(Refusal::Order));
     }
-    let record = Record::read(sheet, at, sheet.len())?;
-    let kind = read_kind(record)?;
+    let record = SheetRecord::read(sheet, at, sheet.len())?;
+    let kind = record.frame.step_kind()?;
     let state = state.after(kind)?;
-    let step = read_step(sheet, record, kind)?;
+    let step = record.step(kind)?;
     Ok(Next {
         step,
         state,
-        end: record.end,
+        end: record.frame.end,
     })
 }

@@ -1,5 +1,6 @@
-ghost use Rattle.std.specs.Prelude.{◌≡◌, ◌+◌, ◌<◌, ◌≤◌, length, IfOk};
-ghost use Rattle.reader.specs.Records.{record_at, pair_at, payload, position_at, Within};
+ghost use Rattle.std.specs.Prelude.{◌≡◌, ◌≢◌, ◌+◌, ◌<◌, ◌≤◌, length, Ok, Err, IfOk, IfErr};
+ghost use Rattle.domain.specs.declared.refusal.Refusal.TheVariants.{Length};
+ghost use Rattle.reader.specs.Records.{record_at, pair_at, payload, position_at, Part, Within};
 
 use domain::refusal::Refusal;
 use sheet::fault::ReaderFault;
@@ -10,7 +11,7 @@ const HEAD: usize = 4;
 // No description has more positions.
 const POSITIONS: u8 = 12;
 
-// A record of the sheet: where it starts, its kind, and where its payload starts and ends.
+// Where a record starts, its kind, and where its payload starts and ends.
 #[derive(Clone, Copy)]
 pub(crate) struct Record {
     pub(crate) place: usize,
@@ -20,38 +21,6 @@ pub(crate) struct Record {
 }
 
 impl Record {
-    // The record at a place, which may not reach past an end.
-    pub(crate) fn read(sheet: &[u8], at: usize, end: usize) -> Result<Record, ReaderFault>
-        requires { end ≤ length sheet.now }
-        ensures value { result ≡ record_at sheet.now at end }
-        ensures within { IfOk result (λ x. Within at end x) }
-    {
-        let refusal = Refusal::Truncated;
-        if end < at || end - at < HEAD {
-            return Err(ReaderFault { refusal, place: at });
-        }
-        let length = pair(sheet, at) as usize;
-        let kind = pair(sheet, at + 2);
-        let start = at + HEAD;
-        if end - start < length {
-            return Err(ReaderFault { refusal, place: at });
-        }
-        Ok(Record {
-            place: at,
-            kind,
-            start,
-            end: start + length,
-        })
-    }
-
-    // How long the payload is.
-    pub(crate) fn len(self) -> usize
-        requires { self.start ≤ self.end }
-        ensures { result ≡ payload self }
-    {
-        self.end - self.start
-    }
-
     // A refusal, placed at this record.
     pub(crate) fn fault(self, refusal: Refusal) -> ReaderFault
         ensures { result ≡ record { refusal = refusal; place = self.place } }
@@ -61,19 +30,99 @@ impl Record {
             place: self.place,
         }
     }
+}
 
-    // The byte of the payload at a place, which names a position.
-    pub(crate) fn position(self, sheet: &[u8], at: usize) -> Result<u8, ReaderFault>
-        requires { at < length sheet.now }
-        ensures value { result ≡ position_at sheet.now self at }
+// A record with its sheet, on which the whole of its payload lies.
+#[derive(Clone, Copy)]
+pub(crate) struct SheetRecord<'a> {
+    pub(crate) sheet: &'a [u8],
+    pub(crate) frame: Record,
+    ghost part: { Part sheet.now frame },
+}
+
+impl<'a> SheetRecord<'a> {
+    // The record at a place, which may not reach past an end.
+    pub(crate) fn read(
+        sheet: &'a [u8],
+        at: usize,
+        end: usize,
+    ) -> Result<SheetRecord<'a>, ReaderFault>
+        requires { end ≤ length sheet.now }
+        ensures frame { IfOk result (λ x. Ok x.frame ≡ record_at sheet.now at end) }
+        ensures fault { IfErr result (λ f. Err f ≡ record_at sheet.now at end) }
+        ensures within { IfOk result (λ x. Within at end x.frame) }
+        ensures same_sheet { IfOk result (λ x. x.sheet.now ≡ sheet.now) }
+    {
+        let truncated = ReaderFault {
+            refusal: Refusal::Truncated,
+            place: at,
+        };
+        if end.saturating_sub(at) < HEAD {
+            return Err(truncated);
+        }
+        let length = usize::from(pair(sheet, at));
+        let start = at + HEAD;
+        if end - start < length {
+            return Err(truncated);
+        }
+        let frame = Record {
+            place: at,
+            kind: pair(sheet, at + 2),
+            start,
+            end: start + length,
+        };
+        Ok(SheetRecord { sheet, frame })
+    }
+
+    // The record at a place of the payload, past which it may not reach.
+    pub(crate) fn inner(&self, at: usize) -> Result<SheetRecord<'a>, ReaderFault>
+        ensures frame { IfOk result (λ x. Ok x.frame ≡ record_at self.now.sheet.now at self.now.frame.end) }
+        ensures fault { IfErr result (λ f. Err f ≡ record_at self.now.sheet.now at self.now.frame.end) }
+        ensures within { IfOk result (λ x. Within at self.now.frame.end x.frame) }
+        ensures same_sheet { IfOk result (λ x. x.sheet.now ≡ self.now.sheet.now) }
+    {
+        SheetRecord::read(self.sheet, at, self.frame.end)
+    }
+
+    // How long the payload is.
+    pub(crate) fn len(&self) -> usize
+        ensures { result ≡ payload self.now.frame }
+    {
+        self.frame.end - self.frame.start
+    }
+
+    // Refuses a payload of any other length.
+    pub(crate) fn expect_len(&self, len: usize) -> Result<(), ReaderFault>
+        ensures ok { IfOk result (λ _. payload self.now.frame ≡ len) }
+        ensures err { IfErr result (λ f. (payload self.now.frame ≢ len) × (f ≡ record { refusal = Length; place = self.now.frame.place })) }
+    {
+        if self.len() == len {
+            Ok(())
+        } else {
+            Err(self.frame.fault(Refusal::Length))
+        }
+    }
+
+    // The byte of the payload at an offset, which names a position.
+    pub(crate) fn position_at(&self, offset: usize) -> Result<u8, ReaderFault>
+        requires { offset < payload self.now.frame }
+        ensures value { result ≡ position_at self.now.sheet.now self.now.frame (self.now.frame.start + offset) }
         ensures small { IfOk result (λ p. p < 12) }
     {
-        let position = sheet[at];
+        let position = self.sheet[self.frame.start + offset];
         if position < POSITIONS {
             Ok(position)
         } else {
-            Err(self.fault(Refusal::Position))
+            Err(self.frame.fault(Refusal::Position))
         }
+    }
+
+    // Two bytes of the payload from an offset on, little-endian.
+    pub(crate) fn pair_at(&self, offset: usize) -> u16
+        requires { offset + 1 < payload self.now.frame }
+        ensures { result ≡ pair_at self.now.sheet.now (self.now.frame.start + offset) }
+    {
+        pair(self.sheet, self.frame.start + offset)
     }
 }
 

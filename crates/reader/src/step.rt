@@ -1,116 +1,94 @@
-ghost use Rattle.std.specs.Prelude.{◌≡◌, ◌≤◌, IfOk};
-ghost use Rattle.reader.specs.Records.{Part};
+ghost use Rattle.std.specs.Prelude.{◌≡◌, IfOk};
 ghost use Rattle.sheet.specs.Steps.{Inside};
 ghost use Rattle.reader.specs.Payloads.{step_kind_of, open_of, bind_of, join_of, forget_of, ask_of, end_of, step_of};
 
-use crate::ask::read_question;
-use crate::record::{Record, pair};
-use crate::term::read_term;
+use crate::record::{Record, SheetRecord};
 use domain::refusal::Refusal;
 use sheet::fault::ReaderFault;
 use sheet::step::{Step, StepKind};
 
-// The kind of the step that a record holds.
-pub(crate) fn read_kind(record: Record) -> Result<StepKind, ReaderFault>
-    ensures { result ≡ step_kind_of «record» }
-{
-    match StepKind::numbered(record.kind) {
-        Some(kind) => Ok(kind),
-        None => Err(record.fault(Refusal::Kind)),
+impl Record {
+    // The kind of the step that the record holds.
+    pub(crate) fn step_kind(self) -> Result<StepKind, ReaderFault>
+        ensures { result ≡ step_kind_of self }
+    {
+        StepKind::try_from(self.kind).map_err(|refusal| self.fault(refusal))
     }
 }
 
-// The step of a record whose kind is known: first the payload's length, then the payload left to right.
-pub(crate) fn read_step(sheet: &[u8], record: Record, kind: StepKind) -> Result<Step, ReaderFault>
-    requires { Part sheet.now «record» }
-    ensures value { result ≡ step_of sheet.now «record» kind }
-    ensures inside { IfOk result (λ s. Inside sheet.now s) }
-{
-    read_payload(sheet, record, kind)
-}
+impl SheetRecord<'_> {
+    // The step of this kind: first the payload's length, then the payload left to right.
+    pub(crate) fn step(&self, kind: StepKind) -> Result<Step, ReaderFault>
+        ensures value { result ≡ step_of self.now.sheet.now self.now.frame kind }
+        ensures inside { IfOk result (λ s. Inside self.now.sheet.now s) }
+    {
+        match kind {
+            StepKind::Open => self.open(),
+            StepKind::Bind => self.bind(),
+            StepKind::Join => self.join(),
+            StepKind::Forget => self.forget(),
+            StepKind::Ask => self.ask(),
+            StepKind::End => self.end(),
+        }
+    }
 
-fn read_payload(sheet: &[u8], record: Record, kind: StepKind) -> Result<Step, ReaderFault>
-    requires { Part sheet.now «record» }
-    ensures { result ≡ step_of sheet.now «record» kind }
-{
-    match kind {
-        StepKind::Open => open(sheet, record),
-        StepKind::Bind => bind(sheet, record),
-        StepKind::Join => join(sheet, record),
-        StepKind::Forget => forget(sheet, record),
-        StepKind::Ask => ask(sheet, record),
-        StepKind::End => end(record),
+    fn open(&self) -> Result<Step, ReaderFault>
+        ensures { result ≡ open_of self.now.sheet.now self.now.frame }
+    {
+        self.expect_len(1)?;
+        Ok(Step::Open(self.sheet[self.frame.start]))
     }
-}
 
-fn open(sheet: &[u8], record: Record) -> Result<Step, ReaderFault>
-    requires { Part sheet.now «record» }
-    ensures { result ≡ open_of sheet.now «record» }
-{
-    if record.len() != 1 {
-        return Err(record.fault(Refusal::Length));
+    fn bind(&self) -> Result<Step, ReaderFault>
+        ensures { result ≡ bind_of self.now.sheet.now self.now.frame }
+    {
+        if self.len() < 5 {
+            return Err(self.frame.fault(Refusal::Length));
+        }
+        let position = self.position_at(0)?;
+        let inner = self.inner(self.frame.start + 1)?;
+        let term = inner.term()?;
+        if inner.frame.end != self.frame.end {
+            return Err(self.frame.fault(Refusal::Length));
+        }
+        Ok(Step::Bind { position, term })
     }
-    Ok(Step::Open(sheet[record.start]))
-}
 
-fn bind(sheet: &[u8], record: Record) -> Result<Step, ReaderFault>
-    requires { Part sheet.now «record» }
-    ensures { result ≡ bind_of sheet.now «record» }
-{
-    if record.len() < 5 {
-        return Err(record.fault(Refusal::Length));
+    // The two masks, and then the groups, which stay on the sheet.
+    fn join(&self) -> Result<Step, ReaderFault>
+        ensures { result ≡ join_of self.now.sheet.now self.now.frame }
+    {
+        if self.len() < 4 || self.len() % 2 != 0 {
+            return Err(self.frame.fault(Refusal::Length));
+        }
+        Ok(Step::Join {
+            free: self.pair_at(0),
+            linear: self.pair_at(2),
+            start: self.frame.start + 4,
+            count: (self.len() - 4) / 2,
+        })
     }
-    let position = record.position(sheet, record.start)?;
-    let inner = Record::read(sheet, record.start + 1, record.end)?;
-    let term = read_term(sheet, inner)?;
-    if inner.end != record.end {
-        return Err(record.fault(Refusal::Length));
-    }
-    Ok(Step::Bind { position, term })
-}
 
-// The two masks, and then the groups, which stay on the sheet.
-fn join(sheet: &[u8], record: Record) -> Result<Step, ReaderFault>
-    requires { Part sheet.now «record» }
-    ensures { result ≡ join_of sheet.now «record» }
-{
-    if record.len() < 4 || record.len() % 2 != 0 {
-        return Err(record.fault(Refusal::Length));
+    fn forget(&self) -> Result<Step, ReaderFault>
+        ensures { result ≡ forget_of self.now.sheet.now self.now.frame }
+    {
+        self.expect_len(2)?;
+        Ok(Step::Forget(self.pair_at(0)))
     }
-    Ok(Step::Join {
-        free: pair(sheet, record.start),
-        linear: pair(sheet, record.start + 2),
-        start: record.start + 4,
-        count: (record.len() - 4) / 2,
-    })
-}
 
-fn forget(sheet: &[u8], record: Record) -> Result<Step, ReaderFault>
-    requires { Part sheet.now «record» }
-    ensures { result ≡ forget_of sheet.now «record» }
-{
-    if record.len() != 2 {
-        return Err(record.fault(Refusal::Length));
+    fn ask(&self) -> Result<Step, ReaderFault>
+        ensures { result ≡ ask_of self.now.sheet.now self.now.frame }
+    {
+        if self.len() < 2 || self.len() > 3 {
+            return Err(self.frame.fault(Refusal::Length));
+        }
+        Ok(Step::Ask(self.question()?))
     }
-    Ok(Step::Forget(pair(sheet, record.start)))
-}
 
-fn ask(sheet: &[u8], record: Record) -> Result<Step, ReaderFault>
-    requires { Part sheet.now «record» }
-    ensures { result ≡ ask_of sheet.now «record» }
-{
-    if record.len() < 2 || record.len() > 3 {
-        return Err(record.fault(Refusal::Length));
+    fn end(&self) -> Result<Step, ReaderFault>
+        ensures { result ≡ end_of self.now.frame }
+    {
+        self.expect_len(0)?;
+        Ok(Step::End)
     }
-    Ok(Step::Ask(read_question(sheet, record)?))
-}
-
-fn end(record: Record) -> Result<Step, ReaderFault>
-    requires { «record».start ≤ «record».end }
-    ensures { result ≡ end_of «record» }
-{
-    if record.len() != 0 {
-        return Err(record.fault(Refusal::Length));
-    }
-    Ok(Step::End)
 }

@@ -1,10 +1,12 @@
 ghost use Rattle.std.specs.Prelude.{◌≡◌, ◌≤◌};
-ghost use Rattle.reader.specs.Records.{Part, payload};
+ghost use Rattle.std.specs.Option.{ok_or};
+ghost use Rattle.domain.specs.declared.refusal.Refusal.TheVariants.{Kind};
+ghost use Rattle.reader.specs.Records.{payload};
 ghost use Rattle.reader.specs.TermKinds.{term_kind};
 ghost use Rattle.reader.specs.Terms.{nothing};
 ghost use Rattle.reader.specs.Trees.{position_of, constant_of, compound_by, compound_of, args_of, tree_of, summed, onto, term_of, SumsUp};
 
-use crate::record::Record;
+use crate::record::{Record, SheetRecord};
 use crate::sum::{empty, join, single};
 use domain::refusal::Refusal;
 use domain::term::Term;
@@ -21,97 +23,96 @@ pub(crate) enum TermKind {
 // Compounds nest at most this deep, the outermost counting as 1.
 const DEEPEST: u8 = 16;
 
-impl TermKind {
-    fn numbered(number: u16) -> Option<TermKind>
-        ensures { result ≡ term_kind number }
-    {
+// The kind that has this number on a sheet.
+impl TryFrom<u16> for TermKind {
+    type Error = Refusal;
+
+    ghost try_from_gives = { λ number r. r ≡ ok_or (term_kind number) Kind };
+
+    fn try_from(number: u16) -> Result<TermKind, Refusal> {
         match number {
-            17 => Some(TermKind::Position),
-            18 => Some(TermKind::Constant),
-            19 => Some(TermKind::Compound),
-            _ => None,
+            17 => Ok(TermKind::Position),
+            18 => Ok(TermKind::Constant),
+            19 => Ok(TermKind::Compound),
+            _ => Err(Refusal::Kind),
         }
     }
 }
 
-// The term of a record, summed up: what is held occurs in it, and what is repeated more than once.
-pub(crate) fn read_term(sheet: &[u8], record: Record) -> Result<Term, ReaderFault>
-    requires { Part sheet.now «record» }
-    ensures value { result ≡ term_of sheet.now «record» }
-    ensures law { SumsUp sheet.now «record» result }
-{
-    outermost(sheet, record)
-}
-
-// A term that stands in no compound.
-fn outermost(sheet: &[u8], record: Record) -> Result<Term, ReaderFault>
-    requires { Part sheet.now «record» }
-    ensures { result ≡ term_of sheet.now «record» }
-{
-    nested(sheet, record, DEEPEST)
-}
-
-fn position(sheet: &[u8], record: Record) -> Result<Term, ReaderFault>
-    requires { Part sheet.now «record» }
-    ensures { result ≡ summed (position_of sheet.now «record») }
-{
-    if record.len() != 1 {
-        return Err(record.fault(Refusal::Length));
-    }
-    Ok(single(record.position(sheet, record.start)?))
-}
-
-fn constant(sheet: &[u8], record: Record) -> Result<Term, ReaderFault>
-    requires { Part sheet.now «record» }
-    ensures { result ≡ summed (constant_of sheet.now «record») }
-{
-    if record.len() != 2 {
-        return Err(record.fault(Refusal::Length));
-    }
-    Ok(empty())
-}
-
-// A term in which `depth` compounds may still nest.
-#[cycle(arguments_compound_nested)]
-fn nested(sheet: &[u8], record: Record, depth: u8) -> Result<Term, ReaderFault>
-    requires { Part sheet.now «record» }
-    ensures { result ≡ summed (tree_of sheet.now depth «record») }
-{
-    match TermKind::numbered(record.kind) {
-        None => Err(record.fault(Refusal::Kind)),
-        Some(TermKind::Position) => position(sheet, record),
-        Some(TermKind::Constant) => constant(sheet, record),
-        Some(TermKind::Compound) => compound(sheet, record, depth),
+impl Record {
+    // The kind of the term that the record holds.
+    fn term_kind(self) -> Result<TermKind, ReaderFault>
+        ensures { result ≡ ok_or (term_kind self.kind) (record { refusal = Kind; place = self.place }) }
+    {
+        TermKind::try_from(self.kind).map_err(|refusal| self.fault(refusal))
     }
 }
 
-// A compound, whose terms fill its payload after the functor number.
-#[cycle(arguments_compound_nested)]
-fn compound(sheet: &[u8], record: Record, depth: u8) -> Result<Term, ReaderFault>
-    requires { Part sheet.now «record» }
-    ensures { result ≡ summed (compound_by sheet.now (compound_of sheet.now depth) «record») }
-{
-    if record.len() < 6 {
-        return Err(record.fault(Refusal::Length));
+impl SheetRecord<'_> {
+    // The term of a record, summed up: what is held occurs in it, and what is repeated more than once.
+    #[tactic(auto, using(crate::proofs::Occurrences::sums_up))]
+    pub(crate) fn term(&self) -> Result<Term, ReaderFault>
+        ensures value { result ≡ term_of self.now.sheet.now self.now.frame }
+        ensures law { SumsUp self.now.sheet.now self.now.frame result }
+    {
+        self.nested(DEEPEST)
     }
-    if depth == 0 {
-        return Err(record.fault(Refusal::Depth));
-    }
-    arguments(sheet, record, depth - 1)
-}
 
-// The terms of a compound side by side, in each of which `depth` compounds may still nest.
-#[cycle(arguments_compound_nested)]
-fn arguments(sheet: &[u8], record: Record, depth: u8) -> Result<Term, ReaderFault>
-    requires { (Part sheet.now «record») × (2 ≤ payload «record») }
-    ensures { result ≡ onto nothing (args_of sheet.now (tree_of sheet.now depth) «record») }
-{
-    let mut all = empty();
-    let mut at = record.start + 2;
-    while at < record.end {
-        let inner = Record::read(sheet, at, record.end)?;
-        all = join(all, nested(sheet, inner, depth)?);
-        at = inner.end;
+    // A term in which `depth` compounds may still nest.
+    #[cycle(arguments_compound_nested)]
+    fn nested(&self, depth: u8) -> Result<Term, ReaderFault>
+        ensures { result ≡ summed (tree_of self.now.sheet.now depth self.now.frame) }
+    {
+        match self.frame.term_kind()? {
+            TermKind::Position => self.position(),
+            TermKind::Constant => self.constant(),
+            TermKind::Compound => self.compound(depth),
+        }
     }
-    Ok(all)
+
+    fn position(&self) -> Result<Term, ReaderFault>
+        ensures { result ≡ summed (position_of self.now.sheet.now self.now.frame) }
+    {
+        self.expect_len(1)?;
+        Ok(single(self.position_at(0)?))
+    }
+
+    fn constant(&self) -> Result<Term, ReaderFault>
+        ensures { result ≡ summed (constant_of self.now.sheet.now self.now.frame) }
+    {
+        self.expect_len(2)?;
+        Ok(empty())
+    }
+
+    // A compound, whose terms fill its payload after the functor number.
+    #[cycle(arguments_compound_nested)]
+    #[tactic(auto, using(crate::proofs::Arguments::too_deep, crate::proofs::Arguments::deeper))]
+    fn compound(&self, depth: u8) -> Result<Term, ReaderFault>
+        ensures { result ≡ summed (compound_by self.now.sheet.now (compound_of self.now.sheet.now depth) self.now.frame) }
+    {
+        if self.len() < 6 {
+            return Err(self.frame.fault(Refusal::Length));
+        }
+        if depth == 0 {
+            return Err(self.frame.fault(Refusal::Depth));
+        }
+        self.arguments(depth - 1)
+    }
+
+    // The terms of a compound side by side, in each of which `depth` compounds may still nest.
+    #[cycle(arguments_compound_nested)]
+    #[tactic(auto, using(crate::proofs::Arguments::next_from))]
+    fn arguments(&self, depth: u8) -> Result<Term, ReaderFault>
+        requires { 2 ≤ payload self.now.frame }
+        ensures { result ≡ onto nothing (args_of self.now.sheet.now (tree_of self.now.sheet.now depth) self.now.frame) }
+    {
+        let mut all = empty();
+        let mut at = self.frame.start + 2;
+        while at < self.frame.end {
+            let inner = self.inner(at)?;
+            all = join(all, inner.nested(depth)?);
+            at = inner.frame.end;
+        }
+        Ok(all)
+    }
 }

@@ -1,18 +1,18 @@
 // Small sheets, read.
 ghost use Rattle.std.specs.Prelude.{◌≤◌};
 
-use crate::record::Record;
-use crate::step::{read_kind, read_step};
+use crate::record::SheetRecord;
 use domain::refusal::Refusal;
 use domain::term::Term;
+use keeper::question::Question;
 use sheet::fault::ReaderFault;
-use sheet::step::{Question, Step};
+use sheet::step::Step;
 use std::process::Abort;
 
 // The first step of a sheet.
 fn first(sheet: &[u8]) -> Result<Step, ReaderFault> {
-    let record = Record::read(sheet, 0, sheet.len())?;
-    read_step(sheet, record, read_kind(record)?)
+    let record = SheetRecord::read(sheet, 0, sheet.len())?;
+    record.step(record.frame.step_kind()?)
 }
 
 fn bound(rt: &impl Abort, sheet: &[u8], bare: bool, held: u16, repeated: u16) {

@@ -1,5 +1,6 @@
 // Whole sheets, and what is printed of them.
 use console::run_sheet;
+use domain::listing::Listing;
 use domain::refusal::{Layer, Refusal};
 use domain::term::Term;
 use keeper::fault::KeeperFault;
@@ -11,6 +12,15 @@ use std::alloc::Global;
 use std::process::Abort;
 use std::test::Fail;
 use table_keeper::TableKeeper;
+
+// A description that is handed over.
+fn listing(free: u16, linear: u16, groups: &[u16]) -> Listing<'_> {
+    Listing {
+        free,
+        linear,
+        groups,
+    }
+}
 
 fn prints(rt: &impl Abort, heap: Global, sheet: &[u8], text: &str, what: &str) -> Result<(), Fail> {
     let mut keeper = TableKeeper::new();
@@ -394,8 +404,18 @@ fn calls_that_are_refused(rt: HostRuntime) -> Result<(), Fail> {
     keeper.open(2, &mut scratch)?;
     assert!(rt; is_refused(keeper.open(2, &mut scratch), Refusal::Order));
     assert!(rt; is_refused(keeper.bind(0, term, &mut scratch), Refusal::Marks));
-    assert!(rt; is_refused(keeper.join(3, 3, &[2, 1], &mut scratch), Refusal::Groups));
-    assert!(rt; is_refused(keeper.join(3, 1, &[1, 2], &mut scratch), Refusal::Marks));
+    assert!(rt;
+        is_refused(
+            keeper.join(listing(3, 3, &[2, 1]), &mut scratch),
+            Refusal::Groups
+        )
+    );
+    assert!(rt;
+        is_refused(
+            keeper.join(listing(3, 1, &[1, 2]), &mut scratch),
+            Refusal::Marks
+        )
+    );
     assert!(rt; is_refused(keeper.forget(4, &mut scratch), Refusal::Position));
     Ok(())
 }

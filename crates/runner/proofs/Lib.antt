@@ -1,3 +1,4 @@
 pub mod Marking
 pub mod Meanings
 pub mod Runs
+pub mod Mapped

@@ -27,12 +27,13 @@ use Rattle.runner.specs.Meaning.{Matched, HadRoom, SameEverywhere}
 use Rattle.runner.specs.Playing.{Plays, ends, breaks, stops, goes, Ran, mark_of}
 use Rattle.reader.specs.Records.{groups_at}
 use Rattle.runner.specs.Running.{Script, finished, broken, follows, script_of}
-use Rattle.runner.specs.Serving.{Serves, Asks, accepted_of}
+use Rattle.runner.specs.Serving.{Serves, accepted_of}
+use Rattle.keeper.specs.Questions.{Asks}
 use Rattle.sheet.specs.declared.fault.RunnerFault.TheVariants.{Keeper}
 use Rattle.sheet.specs.declared.fault.SheetFault.{SheetFault}
 use Rattle.sheet.specs.declared.mark.StepMark.{StepMark}
-use Rattle.sheet.specs.declared.step.Question.{Question}
-use Rattle.sheet.specs.declared.step.Question.TheVariants.{Ground, Free, Linear, Pair}
+use Rattle.keeper.specs.declared.question.Question.{Question}
+use Rattle.keeper.specs.declared.question.Question.TheVariants.{Ground, Free, Linear, Pair}
 use Rattle.sheet.specs.declared.step.Step.{Step}
 use Rattle.sheet.specs.declared.step.Step.TheVariants.{Open, Bind, Join, Forget, Ask, End}
 

@@ -1,14 +1,11 @@
 -- What a keeper makes of one step, over what it tells before and after.
 use Rattle.std.specs.Prelude.{◌≡◌, ℕ, Bool, true, List, Ok, Err, Result}
 use Rattle.domain.specs.Coverage.{Alike}
-use Rattle.domain.specs.Masks.{In}
-use Rattle.domain.specs.Told as domain
-use Rattle.domain.specs.Told.{Told, Share}
-use Rattle.keeper.specs.Calls.{Opens, Binds, Joins, Forgets, Answers, ask_refusal, pair_refusal}
+use Rattle.domain.specs.Told.{Told}
+use Rattle.keeper.specs.Calls.{Opens, Binds, Joins, Forgets}
 use Rattle.keeper.specs.declared.fault.KeeperFault.{KeeperFault}
+use Rattle.keeper.specs.Questions.{Asks}
 use Rattle.reader.specs.Records.{groups_at}
-use Rattle.sheet.specs.declared.step.Question.{Question}
-use Rattle.sheet.specs.declared.step.Question.TheVariants.{Ground, Free, Linear, Pair}
 use Rattle.sheet.specs.declared.step.Step.{Step}
 use Rattle.sheet.specs.declared.step.Step.TheVariants.{Open, Bind, Join, Forget, Ask, End}
 
@@ -16,13 +13,6 @@ use Rattle.sheet.specs.declared.step.Step.TheVariants.{Open, Bind, Join, Forget,
 abbrev pub accepted_of : Result (Unit {0}) KeeperFault → Result Bool KeeperFault
 accepted_of (Ok u) = Ok true
 accepted_of (Err f) = Err f
-
--- each question answers from the description told
-abbrev pub Asks : Told → Question → Result Bool KeeperFault → Type 0
-Asks d (Ground p) r = Answers (ask_refusal d p) (domain.Ground d p) r
-Asks d (Free p) r = Answers (ask_refusal d p) (In p d.free) r
-Asks d (Linear p) r = Answers (ask_refusal d p) (In p d.linear) r
-Asks d (Pair p q) r = Answers (pair_refusal d p q) (Share d p q) r
 
 -- what the step asks of the keeper, and the answer; the groups of a join lie on the sheet
 abbrev pub Serves : ℕ → ℕ → List ℕ → Step → Told → Told → Result Bool KeeperFault → Type 0

@@ -49,7 +49,8 @@ fn run_steps<K: Keeper>(
     groups: &mut [u16],
     scratch: &mut [u8],
 ) -> Result<usize, SheetFault>
-    requires { (length sheet.now ≤ 65535) × (marks.old.used ≡ 0) }
+    requires short { length sheet.now ≤ 65535 }
+    requires unused { marks.old.used ≡ 0 }
     ensures ran { Ran (K.Keeper.capacity keeper.old) (length scratch.old) sheet.now (length groups.old) (K.Keeper.told keeper.old) (K.Keeper.told keeper.new) (slots marks.old) (slots marks.new) result }
     ensures lent { marks.new.entries.ghost_name ≡ marks.old.entries.ghost_name }
     ensures same_capacity { K.Keeper.capacity keeper.new ≡ K.Keeper.capacity keeper.old }
@@ -60,10 +61,10 @@ fn run_steps<K: Keeper>(
         step: 0,
     };
     while cursor.at < sheet.len() {
-        match take_step(keeper, sheet, cursor, marks, groups, scratch) {
-            Ok(next) => cursor = next,
-            Err(fault) => return Err(fault.at(cursor.step, cursor.at)),
-        }
+        cursor = take_step(keeper, sheet, cursor, marks, groups, scratch).map_err(|fault| fault.at(
+            cursor.step,
+            cursor.at,
+        ))?;
     }
     finish(cursor)
 }

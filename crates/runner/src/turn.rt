@@ -30,7 +30,9 @@ pub(crate) fn take_step<K: Keeper>(
     groups: &mut [u16],
     scratch: &mut [u8],
 ) -> Result<Cursor, RunnerFault>
-    requires { (cursor.at < length sheet.now) × ((length sheet.now ≤ 65535) × (Marked cursor marks.old)) }
+    requires more { cursor.at < length sheet.now }
+    requires short { length sheet.now ≤ 65535 }
+    requires marked { Marked cursor marks.old }
     ensures turns { Turns (K.Keeper.capacity keeper.old) (length scratch.old) sheet.now (length groups.old) cursor (next_at sheet.now cursor.state cursor.at) (K.Keeper.told keeper.old) (K.Keeper.told keeper.new) (slots marks.old) (slots marks.new) result }
     ensures onward { IfOk result (λ c. (cursor.at < c.at) × (c.at ≤ length sheet.now) × (c.step ≡ cursor.step + 1)) }
     ensures marked { IfOk result (λ c. Marked c marks.new) }
@@ -46,7 +48,8 @@ pub(crate) fn take_step<K: Keeper>(
         return Err(RunnerFault::Runner(Refusal::Room));
     }
     let answer = serve(keeper, sheet, next.step, groups, scratch)?;
-    marks.add(StepMark {
+    // there is room, and no earlier mark has this place
+    let _ = marks.add(StepMark {
         place: cursor.at as u16,
         kind: next.step.kind(),
         answer,

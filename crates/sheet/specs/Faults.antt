@@ -1,5 +1,7 @@
 -- Faults on a sheet: number, layer, step and place.
-use Rattle.std.specs.Prelude.{◌≡◌, ℕ}
+use Rattle.std.specs.Prelude.{◌≡◌, ℕ, Bool, ◌==◌}
+use Rattle.std.specs.Ordering.{on, eq_of_both}
+use Rattle.domain.specs.contracts.refusal.LayerPartialEq.TheImpl as layer_eq
 use Rattle.domain.specs.Refusals.{number_of}
 use Rattle.domain.specs.declared.refusal.Layer.{Layer}
 use Rattle.domain.specs.declared.refusal.Layer.TheVariants as layer
@@ -32,3 +34,11 @@ pub record SameFault (f g : SheetFault) : Type 0 where
   pub layer : layer_in f.cause ≡ layer_in g.cause
   pub step : f.step ≡ g.step
   pub place : f.place ≡ g.place
+
+-- the test of that, which `==` computes
+abbrev pub fault_eq : SheetFault → SheetFault → Bool
+fault_eq =
+    eq_of_both (on (λ f. number_in f.cause) ◌==◌)
+    (eq_of_both (on (λ f. layer_in f.cause) (layer_eq.ghosts).eq)
+    (eq_of_both (on (λ f. f.step) ◌==◌)
+    (on (λ f. f.place) ◌==◌)))

@@ -1,6 +1,8 @@
 // Faults: the reader's, the runner's and the sheet's. Each one holds the one below whole.
-ghost use Rattle.std.specs.Prelude.{◌≡◌, MatchBool};
-ghost use Rattle.sheet.specs.Faults.{number_in, layer_in, fault_at, SameFault};
+ghost use Rattle.std.specs.Prelude.{◌≡◌, ◌↔◌, IsTrue};
+ghost use Rattle.std.specs.Cmp.Rules.{comparing};
+ghost use Rattle.domain.specs.contracts.refusal.LayerEq.TheImpl.Laws.{laws-law};
+ghost use Rattle.sheet.specs.Faults.{number_in, layer_in, fault_at, fault_eq, SameFault};
 ghost use Rattle.sheet.specs.declared.fault.RunnerFault.TheVariants.{Reader, Keeper};
 
 use domain::refusal::{Layer, Refusal};
@@ -87,14 +89,25 @@ impl SheetFault {
             RunnerFault::Keeper(_) => Layer::Keeper,
         }
     }
+}
 
-    // Two faults are the same when number, layer, step and place agree.
-    pub fn same(&self, other: &SheetFault) -> bool
-        ensures { MatchBool result (SameFault self.now other.now) (SameFault self.now other.now → ⊥) }
+// Two faults are the same when number, layer, step and place agree.
+impl PartialEq for SheetFault {
+    ghost eq = { fault_eq };
+
+    ghost laws = { Prim.search (comparing, laws-law) depth 6 };
+
+    fn eq(&self, other: &SheetFault) -> bool
+        ensures test { result ≡ fault_eq self.now other.now }
+        ensures same { IsTrue result ↔ SameFault self.now other.now }
     {
         self.number() == other.number()
             && self.layer() == other.layer()
             && self.step == other.step
             && self.place == other.place
     }
+}
+
+impl Eq for SheetFault {
+    ghost laws = { Prim.search (comparing, laws-law) };
 }

@@ -10,9 +10,12 @@ impl fmt::Display for StepMark {
     ghost output = { λ m. Some (mark_text m) };
 
     fn fmt<W: fmt::Write>(&self, f: &mut fmt::Formatter<W>) -> fmt::Result {
-        let place = self.place;
-        let kind = self.kind.name();
-        let answer = answer_name(self.answer);
+        let StepMark {
+            place,
+            kind,
+            answer,
+        } = *self;
+        let answer = answer_name(answer);
         write!(f, "{place} {kind} {answer}")
     }
 }

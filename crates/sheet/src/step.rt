@@ -1,8 +1,13 @@
-ghost use Rattle.std.specs.Prelude.{◌≡◌};
+ghost use Rattle.std.specs.Prelude.{◌≡◌, Some};
+ghost use Rattle.std.specs.Option.{ok_or};
+ghost use Rattle.domain.specs.declared.refusal.Refusal.TheVariants.{Kind};
 ghost use Rattle.sheet.specs.Kinds.{step_kind, step_name};
 ghost use Rattle.sheet.specs.Steps.{kind_of, group_count};
 
+use domain::refusal::Refusal;
 use domain::term::Term;
+use keeper::question::Question;
+use std::fmt;
 
 // The kinds of steps, without what they carry.
 #[derive(Clone, Copy, PartialEq, Eq, Debug)]
@@ -15,22 +20,26 @@ pub enum StepKind {
     End,
 }
 
-impl StepKind {
-    // The kind that has this number on a sheet.
-    pub fn numbered(number: u16) -> Option<StepKind>
-        ensures { result ≡ step_kind number }
-    {
+// The kind that has this number on a sheet.
+impl TryFrom<u16> for StepKind {
+    type Error = Refusal;
+
+    ghost try_from_gives = { λ number r. r ≡ ok_or (step_kind number) Kind };
+
+    fn try_from(number: u16) -> Result<StepKind, Refusal> {
         match number {
-            1 => Some(StepKind::Open),
-            2 => Some(StepKind::Bind),
-            3 => Some(StepKind::Join),
-            4 => Some(StepKind::Forget),
-            5 => Some(StepKind::Ask),
-            6 => Some(StepKind::End),
-            _ => None,
+            1 => Ok(StepKind::Open),
+            2 => Ok(StepKind::Bind),
+            3 => Ok(StepKind::Join),
+            4 => Ok(StepKind::Forget),
+            5 => Ok(StepKind::Ask),
+            6 => Ok(StepKind::End),
+            _ => Err(Refusal::Kind),
         }
     }
+}
 
+impl StepKind {
     // The name that a line prints.
     pub fn name(self) -> &'static str
         ensures { result.now ≡ step_name self }
@@ -46,13 +55,12 @@ impl StepKind {
     }
 }
 
-// A question to the keeper, with the positions that it is about.
-#[derive(Clone, Copy, PartialEq, Eq, Debug)]
-pub enum Question {
-    Ground(u8),
-    Free(u8),
-    Linear(u8),
-    Pair(u8, u8),
+impl fmt::Display for StepKind {
+    ghost output = { λ kind. Some (step_name kind) };
+
+    fn fmt<W: fmt::Write>(&self, f: &mut fmt::Formatter<W>) -> fmt::Result {
+        f.write_str(self.name())
+    }
 }
 
 // One step of a sheet, read.

@@ -1,14 +1,9 @@
 -- The printed lines, byte by byte.
 use Rattle.std.specs.Prelude.{ℕ, List, [], ◌∷◌, ◌++◌, codes, decimal}
+use Rattle.domain.specs.Refusals.{layer_name}
 use Rattle.domain.specs.declared.refusal.Layer.{Layer}
-use Rattle.domain.specs.declared.refusal.Layer.TheVariants.{Reader, Runner, Keeper}
 use Rattle.sheet.specs.declared.mark.StepMark.{StepMark}
 use Rattle.sheet.specs.Shown.{mark_text}
-
-abbrev pub layer_name : Layer → List ℕ
-layer_name Reader = codes "reader"
-layer_name Runner = codes "runner"
-layer_name Keeper = codes "keeper"
 
 -- a line ends in byte 10
 abbrev pub newline : List ℕ

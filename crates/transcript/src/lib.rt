@@ -8,7 +8,7 @@ pub mod line;
 #[cfg(test)]
 mod tests;
 
-use crate::line::{mark_line, refusal_line};
+use crate::line::refusal_line;
 use sheet::fault::SheetFault;
 use sheet::mark::StepMark;
 use std::alloc::{AllocError, Global};
@@ -26,23 +26,20 @@ pub fn transcript(
         Err(fault) => {
             let mut text = mark_lines(heap, marks, fault.step)?;
             let last = refusal_line(heap, fault.number(), fault.place, fault.step, fault.layer())?;
-            text.push_str(last.as_str())?;
+            text.push_str(&last)?;
             Ok(text)
         }
     }
 }
 
 // The lines of the first marks.
+#[tactic(auto, using(crate::proofs::Transcripts::lines_more))]
 fn mark_lines(heap: Global, marks: &[StepMark], count: usize) -> Result<String, AllocError>
     ensures { IfOk result (λ s. string_bytes s ≡ lines_of (take count marks.now)) }
 {
     let mut text = String::new(heap);
-    for (i, mark) in marks.iter().enumerate() {
-        if i >= count {
-            return Ok(text);
-        }
-        let line = mark_line(heap, *mark)?;
-        text.push_str(line.as_str())?;
+    for mark in marks.iter().take(count) {
+        writeln!(text, "{mark}")?;
     }
     Ok(text)
 }

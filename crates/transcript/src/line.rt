@@ -1,5 +1,5 @@
 ghost use Rattle.std.specs.Prelude.{◌≡◌, IfOk, string_bytes};
-ghost use Rattle.transcript.specs.Lines.{layer_name, mark_line, refusal_line};
+ghost use Rattle.transcript.specs.Lines.{mark_line, refusal_line};
 
 use domain::refusal::Layer;
 use sheet::mark::StepMark;
@@ -22,16 +22,5 @@ pub fn refusal_line(
 ) -> Result<String, AllocError>
     ensures { IfOk result (λ s. string_bytes s ≡ refusal_line number place step layer) }
 {
-    let name = layer_name(layer);
-    format!(in heap; "refused {number} at {place} step {step} {name}\n")
-}
-
-fn layer_name(layer: Layer) -> &'static str
-    ensures { result.now ≡ layer_name layer }
-{
-    match layer {
-        Layer::Reader => "reader",
-        Layer::Runner => "runner",
-        Layer::Keeper => "keeper",
-    }
+    format!(in heap; "refused {number} at {place} step {step} {layer}\n")
 }

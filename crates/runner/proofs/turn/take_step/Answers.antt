@@ -10,7 +10,7 @@ use Rattle.reader.specs.Following.{next_at}
 pub returns-in_err-answer : goal.returns-in_err-answer
 returns-in_err-answer g c =
     let p = err_from_is_err_and c.from_residual-in_err-answer.result c.from_residual-in_err-answer.ensures.1 in
-    let room : c.args.cursor.step < length (slots c.args.marks.now) = omega (arith, c.len.ensures, c.capacity.ensures, c.requires.1.1.counted) in
+    let room : c.args.cursor.step < length (slots c.args.marks.now) = omega (arith, c.len.ensures, c.capacity.ensures, c.requires.marked.counted) in
     record {
       turns = turns_stop _ _ _ _ c.args.cursor c.in_ok-next.next (next_at c.args.sheet.now c.args.cursor.state c.args.cursor.at)
           c.in_err-answer.field-0.0 (g.K.Keeper.told c.args.keeper.now) (g.K.Keeper.told c.serve.new.keeper) (slots c.args.marks.now) c.from_residual-in_err-answer.result p.0 c.in_ok-next.ensures.value
@@ -25,7 +25,7 @@ returns-in_err-answer g c =
 
 pub returns : goal.returns
 returns g c =
-    let w = c.requires.1.1 in
+    let w = c.requires.marked in
     let room : c.args.marks.now.used < length (slots c.args.marks.now) = omega (arith, c.len.ensures, c.capacity.ensures) in
     let added = c.add.ensures.appended room w.before in
     let used : c.add.new.self.used ≡ c.args.marks.now.used + 1 = c.add.ensures.counted ∙ ap (used_after c.args.marks.now.used) added.0 in

@@ -2,7 +2,7 @@ use Rattle.std.proofs.Common.{◌+◌, ◌-◌, ◌*◌, ◌≤◌}
 use Rattle.reader.specs.Terms.{nothing}
 use Rattle.reader.specs.Trees.{args_of, onto, tree_of}
 use Rattle.reader.proofs.Arguments.{From}
-use Rattle.reader.proofs.term.+arguments_compound_nested.Given as goal
+use Rattle.reader.proofs.record.SheetRecord.+arguments_compound_nested.Given as goal
 
 abbrev pub decreases-arguments : goal.decreases-arguments
 decreases-arguments l = 3 * l.depth + 3
@@ -16,8 +16,9 @@ decreases-nested l = 3 * l.depth + 2
 -- the terms that are left, read onto those before, make the whole
 abbrev pub invariant-arguments-loop-at : goal.invariant-arguments-loop-at
 invariant-arguments-loop-at l =
-    (l.at ≤ l.«record».end)
-    × From l.sheet (tree_of l.sheet l.depth) l.all l.at l.«record».end (onto nothing (args_of l.sheet (tree_of l.sheet l.depth) l.«record»))
+    (l.at ≤ l.self.frame.end)
+    × From l.self.sheet.now (tree_of l.self.sheet.now l.depth) l.all l.at l.self.frame.end
+    (onto nothing (args_of l.self.sheet.now (tree_of l.self.sheet.now l.depth) l.self.frame))
 
 abbrev pub decreases-arguments-loop-at : goal.decreases-arguments-loop-at
-decreases-arguments-loop-at l = l.«record».end - l.at
+decreases-arguments-loop-at l = l.self.frame.end - l.at
