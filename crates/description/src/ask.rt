@@ -18,7 +18,7 @@ impl Description {
         ensures { Gives (first_of (ask_tests (told self.now).n p)) result (λ yes. Decides yes (Ground (told self.now) p)) }
     {
         check_position(self.positions, p)?;
-        let reached = reach_table(&self.table, self.positions, 1 << p)?;
+        let reached = reach_table(&self.table, self.positions, mask::single(p))?;
         Ok(reached == 0)
     }
 
@@ -42,7 +42,7 @@ impl Description {
     {
         check_position(self.positions, p)?;
         check_position(self.positions, q)?;
-        let reached = reach_table(&self.table, self.positions, 1 << p)?;
+        let reached = reach_table(&self.table, self.positions, mask::single(p))?;
         Ok(mask::has(reached, q))
     }
 }

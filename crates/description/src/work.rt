@@ -1,28 +1,28 @@
 // The caller's scratch as a work table: a description is laid out in it, and one is taken from it.
 ghost use Rattle.std.specs.Prelude.{◌≡◌, ◌≤◌, length, take};
 ghost use Rattle.description.specs.Descriptions.{told};
-ghost use Rattle.description.specs.Working.{KeepsLaws, Works};
+ghost use Rattle.domain.specs.Refusals.{first_of};
+ghost use Rattle.domain.specs.Requests.{Gives};
 ghost use Rattle.domain.specs.Tables.{told_with};
 ghost use Rattle.domain.specs.Told.{Lawful};
 
 use crate::Description;
 use domain::marks::Marks;
 use domain::refusal::Refusal;
+use rules::work::Rule;
 
 impl Description {
     // The description that a rule leaves. The rule works in the first 512 bytes of the scratch, and what the
     // scratch holds afterwards is free.
-    pub(crate) fn worked<F: FnOnce(&mut [u8], Marks) -> Result<Marks, Refusal>>(
+    pub(crate) fn worked<R: Rule>(
         &self,
         scratch: &mut [u8],
-        rule: F,
+        rule: R,
     ) -> Result<Description, Refusal>
-        requires callable { F.IsAlwaysCallable rule }
-        requires lawful { KeepsLaws (F.post rule) (told self.now) (length scratch.old) }
-        ensures { Works (F.post rule) (told self.now) (length scratch.old) result }
+        ensures { Gives (first_of (R.tests rule (told self.now).n (length scratch.old))) result (λ e. R.gives rule (told self.now) (told e)) }
     {
         let before = self.lay(scratch);
-        let after = rule(scratch, before)?;
+        let after = rule.work(scratch, before)?;
         Ok(taken(scratch, after))
     }
 

@@ -1,16 +1,10 @@
 -- The tests that code makes on masks, and what they decide.
-use Rattle.std.proofs.Common.{◌≡◌, ℕ, ◌/◌, ◌^◌, ◌<◌, true, not, eqb, Decides, sym, refl, ◌∙◌, arith}
-use lib.Bits.{bit_and, bit_xor, and_mask}
-use Rattle.std.proofs.lemmas.Bool.{eq-eqb, eqb-true, eqb-false, ne_eqb, not-true, not_from_false}
-use Rattle.domain.specs.Masks.{In, Within, Meets}
+use Rattle.std.proofs.Common.{◌≡◌, ℕ, ◌<◌, true, not, eqb, Decides, refl, arith}
+use lib.Bits.{bit_and, bit_xor}
+use Rattle.std.proofs.lemmas.Bool.{eqb-false, ne_eqb, not-true, not_from_false}
+use Rattle.domain.specs.Masks.{Meets}
 use Rattle.domain.specs.Leaving.{Without}
-use Rattle.domain.proofs.Bits.{meets_and, and_meets, within_and, and_within, same_mask, in_lacking, lacking_in}
-
-pub decides_in : (m p : ℕ) → Decides (eqb (bit_and (m / 2 ^ p) 1) 1) (In p m)
-decides_in m p = (
-  λ e. record { digit = sym (and_mask (m / 2 ^ p) 1) ∙ eqb-true _ 1 e },
-  λ i. eq-eqb _ 1 (and_mask (m / 2 ^ p) 1 ∙ i.digit),
-)
+use Rattle.domain.proofs.Bits.{meets_and, and_meets, in_lacking, lacking_in}
 
 pub decides_meets : (a b : ℕ) → Decides (not (eqb (bit_and a b) 0)) (Meets a b)
 decides_meets a b = (
@@ -24,11 +18,7 @@ decides_meets a b = (
     none : (m : ℕ) → 0 < m → m ≡ 0 → ⊥
     none m h e = omega arith
 
-pub decides_within : (a b : ℕ) → Decides (eqb (bit_and a b) a) (Within a b)
-decides_within a b = (λ e. and_within a b (eqb-true _ a e), λ w. eq-eqb _ a (within_and w))
-
--- a mask that lost those of another is what the two masks compute
-pub mask_without : {m l r : ℕ} → Without m l true r → r ≡ bit_xor m (bit_and m l)
-mask_without {m} {l} w =
-    same_mask (record { each = λ p i. let k = w.only p i in in_lacking k.0 (k.1 refl) })
-    (record { each = λ p i. let k = lacking_in m l i in w.kept p k.0 (λ e. k.1) })
+-- what the two masks compute is the mask that lost those of another
+pub without_mask : (m l : ℕ) → Without m l true (bit_xor m (bit_and m l))
+without_mask m l =
+    record { kept = λ p i out. in_lacking i (out refl); only = λ p i. let r = lacking_in m l i in (r.0, λ e. r.1) }

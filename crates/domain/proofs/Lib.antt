@@ -12,3 +12,6 @@ pub mod Refusing
 pub mod Joining
 pub mod Forgetting
 pub mod Written
+pub mod Made
+pub mod RuleLaws
+pub mod Mapped

@@ -1,16 +1,31 @@
 -- What is known where no test refuses.
-use Rattle.std.proofs.Common.{◌≡◌, ℕ, ◌^◌, ◌<◌, ◌≤◌, Bool, true, false, not, ◌&&◌, eqb, ◌⊎◌, None, Option, refl, inl, inr, arith}
+use Rattle.std.proofs.Common.{◌≡◌, ℕ, ◌^◌, ◌<◌, ◌≤◌, Bool, true, false, not, ◌&&◌, ◌||◌, eqb, ltb, ◌⊎◌, Some, None, Ok, Option, sym, refl, inl, inr, arith}
 use lib.Count.{ones}
 use Rattle.std.proofs.lemmas.Bool.{or_parts, and_cases, and_parts, leb-false, ltb-false, eqb-true, not-false, both_ways}
 use Rattle.domain.specs.Refusals.{pick, first_of}
-use Rattle.domain.specs.Requests.{bind_tests, ill_term}
+use Rattle.domain.specs.Requests.{open_tests, bind_tests, ill_term, Gives}
 use Rattle.domain.specs.declared.refusal.Refusal.{Refusal}
+use Rattle.domain.specs.declared.refusal.Refusal.TheVariants.{Count}
 use Rattle.domain.specs.declared.term.Term.{Term}
 
 -- a test that did not refuse, and those after it
 pub passed : (b : Bool) (e : Refusal) (later : Option Refusal) → None ≡ pick b e later → (b ≡ false) × (None ≡ later)
 passed true e later h = absurd (let z : ◌≡◌ {A = ℕ} 0 1 = cc in omega arith)
 passed false e later h = (refl, h)
+
+-- a value that was given: no test refused, and what is said of values holds of it
+pub gave : {A : Type 0} (o : Option Refusal) (x : A) (P : A → Type 0) → Gives o (Ok x) P → (o ≡ None) × P x
+gave None x P h = (refl, h)
+gave (Some e) x P h = absurd (let q = h in let z : ◌≡◌ {A = ℕ} 0 1 = cc in omega arith)
+
+-- the number of positions is not refused where a value was given
+pub counted_few : {A : Type 0} (n : ℕ) (k : A) (P : A → Type 0) → Gives (first_of (open_tests n)) (Ok k) P → (first_of (open_tests n) ≡ None) × (n < 13) × P k
+counted_few n k P h = let g = gave (first_of (open_tests n)) k P h in (g.0, few g.0, g.1)
+  where
+    few : first_of (open_tests n) ≡ None → n < 13
+    few e =
+        let h : n ≤ 12 = ltb-false 12 n (or_parts (eqb n 0) (ltb 12 n) (passed (eqb n 0 || ltb 12 n) Count None (sym e)).0).1 in
+        omega arith
 
 -- a bare term of which nothing is wrong holds one position
 pub bare_single : (t : Term) → ill_term t ≡ false → t.bare ≡ true → ones t.held ≡ 1

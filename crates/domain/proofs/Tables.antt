@@ -6,9 +6,8 @@ use Rattle.std.proofs.lemmas.List.{get_or-set_same, get_or-set_other, get_or_pas
 use Rattle.std.proofs.lemmas.Bool.Decides.{Decides-at}
 use Rattle.std.proofs.lemmas.Bool.{eq-eqb, ne_eqb, cases_eq}
 use Rattle.domain.specs.Masks.{In}
-use Rattle.domain.specs.Tables.{holds_bit, in_range, told_with}
+use Rattle.domain.specs.Tables.{holds_bit, in_range, told_of}
 use Rattle.domain.specs.Told.{Group}
-use Rattle.domain.specs.declared.marks.Marks.{Marks}
 use Rattle.domain.proofs.Bits.{in_or_not, in_left, in_right, in_either, in_single, single_in, in_lacking, lacking_in}
 
 -- digits agree where one is 1 exactly when the other is
@@ -106,6 +105,6 @@ written_up_more P old s t k on before here at others =
 pub room_for : (n g k : ℕ) → n < 13 → g < 2 ^ n → 512 ≤ k → g / 8 < k
 room_for n g k few below room = let h : n ≤ 12 = omega arith in omega (arith, pow_mono h)
 
--- a mask whose bit two tables share is a group of the one where it is one of the other
-pub same_groups : (m : Marks) (s t : List ℕ) (g : ℕ) → holds_bit t g ≡ holds_bit s g → Group (told_with m s) g → Group (told_with m t) g
-same_groups m s t g e k = record { told = ap (λ b. cond (in_range m.positions g) b false) e ∙ k.told }
+-- a mask whose bit two tables share is a group of the one where it is one of the other; the masks play no part
+pub same_groups : {n f l f' l' : ℕ} (s t : List ℕ) (g : ℕ) → holds_bit t g ≡ holds_bit s g → Group (told_of n s f l) g → Group (told_of n t f' l') g
+same_groups {n} s t g e k = record { told = ap (λ b. cond (in_range n g) b false) e ∙ k.told }

@@ -41,6 +41,7 @@ pub fn put(table: &mut [u8], g: u16, on: bool)
 {
     let place = usize::from(g / 8);
     if place < table.len() {
+        // the cast narrows; it is proved to fit
         table[place] = with_bit(table[place], (g % 8) as u8, on);
     }
 }

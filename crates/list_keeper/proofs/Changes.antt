@@ -1,7 +1,5 @@
 -- The changes of a list keeper: from the list to a table, by the rule, and to the core of what the rule gives.
 use Rattle.std.proofs.Common.{◌≡◌, ℕ, ◌/◌, ◌^◌, ◌<◌, ◌≤◌, Bool, not, eqb, List, ◌++◌, false, is_some, length, take, Some, None, Ok, Err, Decides, Option, Result, sym, refl, ap, ◌∙◌, subst, arith}
-use Rattle.std.specs.Borrow.{MutBor}
-use Rattle.std.specs.Option.{ForSome}
 use Rattle.std.proofs.lemmas.Bool.{ne_eqb, false≢true}
 use Rattle.coverage.proofs.Cover.{same_turned, same_trans, same_groups}
 use Rattle.coverage.proofs.CoreLeast.{core_same, dec_group}
@@ -13,21 +11,17 @@ use Rattle.domain.specs.Refusals.{Test, first_of, pick}
 use Rattle.domain.specs.Requests.{open_tests, room_tests}
 use Rattle.domain.specs.Tables.{holds_bit, told_with}
 use Rattle.domain.specs.Told.{Told, Group}
-use Rattle.domain.specs.declared.marks.Marks.{Marks}
 use Rattle.domain.specs.declared.refusal.Refusal.{Refusal}
 use Rattle.domain.specs.declared.refusal.Refusal.TheVariants.{Order}
 use Rattle.domain.proofs.Bits.{in_single, single_in}
 use Rattle.domain.proofs.Tables.{room_for}
 use Rattle.domain.proofs.Laws.{group_of, of_group}
-use Rattle.rules.proofs.Lending.{rule_made, rule_refusal}
-use Rattle.keeper.specs.Calls.{Changes, Exactly, Opens, opened}
+use Rattle.keeper.specs.Calls.{Changes, Exactly, Opens, opened, fault_of}
 use Rattle.keeper.specs.declared.fault.KeeperFault.{KeeperFault}
 use Rattle.list_keeper.proofs.Keeping.{own_range}
 use Rattle.list_keeper.proofs.Listing.{test_listed, listed_test}
 use Rattle.list_keeper.specs.Keeping.{Kept, TellsCore, Stores}
 use Rattle.list_keeper.specs.Tells.{tells, told_by}
-use Rattle.list_keeper.specs.Working.{Ends, Worked, Works}
-use Rattle.rules.specs.Working.{RuleGives}
 use Rattle.list_keeper.specs.declared.head.Head.{Head}
 
 -- ---- the list as a table
@@ -99,39 +93,33 @@ opens_stored n scratch e new none capacity None list after is r s =
 
 -- ---- a rule on the loaded table
 
-module _ (Rule : Told → Told → Type 0) (tests : ℕ → ℕ → List Test)
-    (post : MutBor (List ℕ) → Marks → Result Marks Refusal → MutBor (List ℕ) → Type 0)
-    (gives :
-    (before after : MutBor (List ℕ)) (marks : Marks) (r : Result Marks Refusal) → post before marks r after
-    → RuleGives tests Rule marks before.now r after.now)
-    (size : ℕ) (room : (n : ℕ) → None ≡ first_of (tests n size) → 512 ≤ size) (capacity : ℕ) (after : Told) (r : Result (Unit {0}) KeeperFault) where
-  worked_changes : (d : Told) → 0 < d.n → d.n < 13 → Worked post d size capacity after r
-      → Changes (first_of (tests d.n size)) capacity (Rule d) Alike d after r
-  worked_changes d some few w = go w.given w.ran w.ends
+-- the tests of the rule are those that an opened keeper is left with
+module _ (Rule : Told → Told → Type 0) (tests : ℕ → ℕ → List Test) (size capacity : ℕ) (held : Option Head) (head : Head) (list : List ℕ)
+    (is : held ≡ Some head) (some : 0 < head.marks.positions) (after : Told) (r : Result (Unit {0}) KeeperFault) where
+  of_opened : Changes (first_of (tests head.marks.positions size)) capacity (Rule (tells head list)) Alike (tells head list) after r
+      → Changes (pick (not (opened (told_by held list))) Order (first_of (tests (told_by held list).n size))) capacity (Rule (told_by held list)) Alike
+      (told_by held list) after r
+  of_opened c =
+      subst
+      (λ (o : Option Head). Changes (pick (not (opened (told_by o list))) Order (first_of (tests (told_by o list).n size))) capacity (Rule (told_by o list)) Alike
+      (told_by o list) after r)
+      (sym is)
+      (subst (λ (x : Option Refusal). Changes x capacity (Rule (tells head list)) Alike (tells head list) after r)
+      (sym (opened_told head.marks.positions (first_of (tests head.marks.positions size)) some)) c)
+
+  pub changes_stored : (e : Told) → first_of (tests head.marks.positions size) ≡ None → Rule (tells head list) e
+      → Stores e capacity (told_by held list) after r
+      → Changes (pick (not (opened (told_by held list))) Order (first_of (tests (told_by held list).n size))) capacity (Rule (told_by held list)) Alike
+      (told_by held list) after r
+  changes_stored e none rule s =
+      of_opened (rw none (stored_by r (subst (λ (o : Option Head). Stores e capacity (told_by o list) after r) is s)))
     where
-      made : (left : Marks) → post w.before w.marks (Ok left) w.worked → (first_of (tests d.n size) ≡ None) × Rule d (told_with left w.worked.now)
-      made left ran =
-          rule_made Rule (λ n k. first_of (tests n k)) w.marks d w.before.now size some few w.positions w.long (room d.n) w.tells left w.worked.now
-          (gives w.before w.worked w.marks (Ok left) ran)
+      stored_by : (r : Result (Unit {0}) KeeperFault) → Stores e capacity (tells head list) after r → Changes None capacity (Rule (tells head list)) Alike (tells head list) after r
+      stored_by (Ok u) s = (e, rule, s.0, tells_alike s.1)
+      stored_by (Err f) s = (s.0, s.1, (e, rule, s.2))
 
-      ended : (e : Told) → Rule d e → (r : Result (Unit {0}) KeeperFault) → Stores e capacity d after r → Changes None capacity (Rule d) Alike d after r
-      ended e rule (Ok u) s = (e, rule, s.0, tells_alike s.1)
-      ended e rule (Err f) s = (s.0, s.1, (e, rule, s.2))
-
-      go : (given : Result Marks Refusal) → post w.before w.marks given w.worked → Ends capacity d given w.worked.now after r
-          → Changes (first_of (tests d.n size)) capacity (Rule d) Alike d after r
-      go (Ok left) ran s = let m = made left ran in rw m.0 (ended (told_with left w.worked.now) m.1 r s)
-      go (Err e) ran s =
-          rw (rule_refusal Rule (λ n k. first_of (tests n k)) w.marks d w.before.now size some few w.positions w.long e w.worked.now
-          (gives w.before w.worked w.marks (Err e) ran)) s
-
-  pub works_changes : (head : Option Head) (list : List ℕ) → ForSome head (λ h. Kept h list) → length list ≡ capacity
-      → Works post head list size after r
-      → Changes (pick (not (opened (told_by head list))) Order (first_of (tests (told_by head list).n size))) capacity (Rule (told_by head list)) Alike
-      (told_by head list) after r
-  works_changes None list kept long w = w
-  works_changes (Some h) list kept long w =
-      let k = kept h refl in
-      subst (λ (x : Option Refusal). Changes x capacity (Rule (tells h list)) Alike (tells h list) after r)
-      (sym (opened_told h.marks.positions (first_of (tests h.marks.positions size)) k.some))
-      (worked_changes (tells h list) k.some k.few (subst (λ (c : ℕ). Worked post (tells h list) size c after r) long w))
+  pub changes_refused : (e : Refusal) → first_of (tests head.marks.positions size) ≡ Some e → r ≡ Err (fault_of e) → after ≡ told_by held list
+      → Changes (pick (not (opened (told_by held list))) Order (first_of (tests (told_by held list).n size))) capacity (Rule (told_by held list)) Alike
+      (told_by held list) after r
+  changes_refused e refused by same =
+      of_opened (rw refused (by, same ∙ ap (λ (o : Option Head). told_by o list) is))

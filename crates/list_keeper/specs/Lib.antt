@@ -2,4 +2,3 @@ pub mod Entries
 pub mod Lawful
 pub mod Tells
 pub mod Keeping
-pub mod Working

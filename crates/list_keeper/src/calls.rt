@@ -1,15 +1,11 @@
 // The calls of a list keeper.
-ghost use Rattle.std.specs.Prelude.{◌≡◌, length, take, Some, None, IfOk, IfErr};
-ghost use Rattle.domain.specs.Binding.{Bound};
+ghost use Rattle.std.specs.Prelude.{◌≡◌, not, ◌∷◌, length, take, Some, None, IfOk, IfErr};
 ghost use Rattle.domain.specs.Coverage.{Alike};
-ghost use Rattle.domain.specs.Forgetting.{Forgotten};
-ghost use Rattle.domain.specs.Joining.{Joined};
-ghost use Rattle.domain.specs.Requests.{bind_tests, join_tests, forget_tests};
+ghost use Rattle.domain.specs.Refusals.{first_of};
 ghost use Rattle.domain.specs.declared.refusal.Refusal.TheVariants.{Order};
-ghost use Rattle.keeper.specs.Calls.{Opens, Binds, Joins, Forgets, fault_of};
+ghost use Rattle.keeper.specs.Calls.{Changes, Opens, Binds, Joins, Forgets, fault_of, opened};
 ghost use Rattle.list_keeper.specs.Keeping.{Kept, Laid};
 ghost use Rattle.list_keeper.specs.Tells.{told_by};
-ghost use Rattle.rules.specs.Working.{RuleGives};
 
 use crate::ListKeeper;
 use crate::change::{change_list, open_list};
@@ -17,14 +13,13 @@ use crate::entries::{copy_to, some_holds};
 use crate::head::Head;
 use domain::count::check_position;
 use domain::listing::Listing;
-use domain::marks::Marks;
 use domain::mask::has;
 use domain::refusal::Refusal;
 use domain::term::Term;
 use keeper::fault::KeeperFault;
 use keeper::keeper::Keeper;
 use keeper::write_out::WrittenOut;
-use rules::lent::{bind_table, forget_table, join_table};
+use rules::work::{Bind, Forget, Join, Rule};
 
 impl<'a> ListKeeper<'a> {
     // A keeper over a list, not opened yet. The list stays as it is.
@@ -53,6 +48,17 @@ impl<'a> ListKeeper<'a> {
     {
         &self.list[..head.count]
     }
+
+    // Works a rule on the description and keeps the core of what it gives.
+    fn change<R: Rule + Drop>(&mut self, scratch: &mut [u8], rule: R) -> Result<(), KeeperFault>
+        ensures changes { Changes (first_of ((not (opened (told_by self.old.head self.old.list.now)), Order) ∷ R.tests rule (told_by self.old.head self.old.list.now).n (length scratch.old))) (length self.old.list.now) (R.gives rule (told_by self.old.head self.old.list.now)) Alike (told_by self.old.head self.old.list.now) (told_by self.new.head self.new.list.now) result }
+        ensures same_capacity { length self.new.list.now ≡ length self.old.list.now }
+        ensures lent { self.new.list.ghost_name ≡ self.old.list.ghost_name }
+        ensures laid { Laid self.new.head self.old.list.now self.new.list.now }
+    {
+        let ListKeeper { head, list } = self;
+        change_list(head, list, scratch, rule)
+    }
 }
 
 impl Keeper for ListKeeper<'_> {
@@ -76,11 +82,7 @@ impl Keeper for ListKeeper<'_> {
         ensures lent { self.new.list.ghost_name ≡ self.old.list.ghost_name }
         ensures laid { Laid self.new.head self.old.list.now self.new.list.now }
     {
-        let rule = |table: &mut [u8], marks: Marks| -> Result<Marks, Refusal>
-            ensures { RuleGives (λ n size. bind_tests n position term size) (λ d e. Bound d position term e) marks table.old result table.new }
-        { bind_table(table, marks, position, term) };
-        let ListKeeper { head, list } = self;
-        change_list(head, list, scratch, rule)
+        self.change(scratch, Bind { position, term })
     }
 
     fn join(&mut self, other: Listing<'_>, scratch: &mut [u8]) -> Result<(), KeeperFault>
@@ -89,24 +91,7 @@ impl Keeper for ListKeeper<'_> {
         ensures lent { self.new.list.ghost_name ≡ self.old.list.ghost_name }
         ensures laid { Laid self.new.head self.old.list.now self.new.list.now }
     {
-        // the clauses of a closure can name what it captures one by one
-        let Listing {
-            free,
-            linear,
-            groups,
-        } = other;
-        let rule = |table: &mut [u8], marks: Marks| -> Result<Marks, Refusal>
-            ensures { RuleGives (λ n size. join_tests n free linear groups.entry.now size) (λ d e. Joined d free linear groups.entry.now e) marks table.old result table.new }
-        {
-            let other = Listing {
-                free,
-                linear,
-                groups,
-            };
-            join_table(table, marks, other)
-        };
-        let ListKeeper { head, list } = self;
-        change_list(head, list, scratch, rule)
+        self.change(scratch, Join(other))
     }
 
     fn forget(&mut self, mask: u16, scratch: &mut [u8]) -> Result<(), KeeperFault>
@@ -115,11 +100,7 @@ impl Keeper for ListKeeper<'_> {
         ensures lent { self.new.list.ghost_name ≡ self.old.list.ghost_name }
         ensures laid { Laid self.new.head self.old.list.now self.new.list.now }
     {
-        let rule = |table: &mut [u8], marks: Marks| -> Result<Marks, Refusal>
-            ensures { RuleGives (λ n size. forget_tests n mask size) (λ d e. Forgotten d mask e) marks table.old result table.new }
-        { forget_table(table, marks, mask) };
-        let ListKeeper { head, list } = self;
-        change_list(head, list, scratch, rule)
+        self.change(scratch, Forget(mask))
     }
 
     fn is_ground(&self, position: u8) -> Result<bool, KeeperFault> {

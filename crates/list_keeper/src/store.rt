@@ -31,10 +31,7 @@ pub(crate) fn store(
         table,
         positions: marks.positions,
     };
-    let count = match groups.write_core(list) {
-        Ok(count) => count,
-        Err(_) => return Err(Refusal::Capacity.into()),
-    };
+    let count = groups.write_core(list).map_err(|_| Refusal::Capacity)?;
     clear(list, count);
     *head = Some(Head { marks, count });
     Ok(())

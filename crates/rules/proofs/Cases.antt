@@ -13,7 +13,7 @@ use Rattle.domain.specs.Filling.{Touching, Hull, Filled, FilledBoth}
 use Rattle.domain.specs.declared.case.Case.{Case}
 use Rattle.domain.specs.declared.case.Case.TheVariants.{Free, BothLinear, PositionLinear, TermLinear, Neither}
 use Rattle.domain.proofs.Hull.{Sub, closure_like, pair_swap, two_paired, paired_two, both_extended, extended_both, one_closed, closed_some, closed_one, hulls_closed, closed_hulls, hull_like, both_like}
-use Rattle.rules.proofs.Made.{made_holds, made_meets, x_touching, touching_x, t_touching, touching_t, shared_touching, touching_shared}
+use Rattle.domain.proofs.Made.{made_holds, made_meets, x_touching, touching_x, t_touching, touching_t, shared_touching, touching_shared}
 use Rattle.domain.proofs.Filling.{touching_pos}
 
 pair_like : {A B C D : ℕ → Type 0} {u : ℕ} → Sub A C → Sub B D → Paired A B u → Paired C D u

@@ -1,14 +1,14 @@
 -- A rule on a lent table that holds what a description tells: its tests are those of the description.
-use Rattle.std.proofs.Common.{◌≡◌, ℕ, ◌^◌, ◌<◌, ◌≤◌, Bool, ◌||◌, eqb, ltb, List, length, Some, None, Ok, Err, Option, sym, refl, ap, ◌∙◌, subst, arith}
-use Rattle.std.proofs.lemmas.Bool.{ne_eqb, le-ltb, or_from, leb-false, ltb-false}
-use Rattle.domain.specs.Refusals.{first_of, pick}
-use Rattle.domain.specs.Requests.{Gives, forget_tests}
+use Rattle.std.proofs.Common.{◌≡◌, ℕ, ◌<◌, ◌≤◌, Bool, ◌||◌, eqb, ltb, List, length, Some, None, Ok, Err, Option, sym, ap, ◌∙◌, subst, arith}
+use Rattle.std.proofs.lemmas.Bool.{ne_eqb, le-ltb, or_from}
+use Rattle.domain.specs.Refusals.{pick}
+use Rattle.domain.specs.Requests.{Gives}
 use Rattle.domain.specs.Tables.{told_with}
 use Rattle.domain.specs.Told.{Told}
 use Rattle.domain.specs.declared.marks.Marks.{Marks}
 use Rattle.domain.specs.declared.refusal.Refusal.{Refusal}
 use Rattle.domain.specs.declared.refusal.Refusal.TheVariants.{Count}
-use Rattle.domain.proofs.Refusing.{passed}
+pub use Rattle.domain.proofs.Refusing.{gave}
 
 -- a description has no more and no fewer positions than a table may have
 pub counted_told : (n : ℕ) (o : Option Refusal) → 0 < n → n < 13 → pick (eqb n 0 || ltb 12 n) Count o ≡ o
@@ -16,20 +16,9 @@ counted_told n o some few =
     ap (λ (b : Bool). pick b Count o)
     (or_from (eqb n 0) (ltb 12 n) (ne_eqb n 0 (λ e. omega arith)) (le-ltb 12 n (omega arith)))
 
-pub gave : {A : Type 0} (o : Option Refusal) (x : A) (P : A → Type 0) → Gives o (Ok x) P → (o ≡ None) × P x
-gave None x P h = (refl, h)
-gave (Some e) x P h = absurd (let q = h in let z : ◌≡◌ {A = ℕ} 0 1 = cc in omega arith)
-
 pub refusal_given : {A : Type 0} (o : Option Refusal) (e : Refusal) (P : A → Type 0) → Gives o (Err e) P → o ≡ Some e
 refusal_given None e P h = absurd h
 refusal_given (Some x) e P h = (let q = h in cc)
-
--- a forget that is not refused stays in range and has room
-pub forget_allowed : (n m k : ℕ) → None ≡ first_of (forget_tests n m k) → (m < 2 ^ n) × (512 ≤ k)
-forget_allowed n m k h =
-    let a = passed _ _ _ h in
-    let b = passed _ _ _ a.1 in
-    (leb-false (2 ^ n) m a.0, ltb-false k 512 b.0)
 
 module _ (Rule : Told → Told → Type 0) (tests : ℕ → ℕ → Option Refusal) (b : Marks) (d : Told) (laid : List ℕ) (len : ℕ)
     (some : 0 < d.n) (few : d.n < 13) (positions : b.positions ≡ d.n) (long : length laid ≡ len) where

@@ -1,6 +1,5 @@
 pub mod Reaching
 pub mod Asking
-pub mod Made
 pub mod Local
 pub mod Cases
 pub mod Linearity

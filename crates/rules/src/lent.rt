@@ -11,14 +11,11 @@ ghost use Rattle.domain.specs.Requests.{open_tests, room_tests, bind_tests, join
 ghost use Rattle.domain.specs.Tables.{holds_bit, told_of, told_with};
 ghost use Rattle.rules.specs.Reaching.{Reach};
 
+use crate::bench::Bench;
+use crate::groups::Groups;
 use crate::mask::all;
-use crate::rule::bound::bound;
-use crate::rule::forgotten::forgotten;
-use crate::rule::join_request::check_join;
-use crate::rule::joined::joined;
+use crate::rule::limits::Limits;
 use crate::rule::load::{put_groups, put_singles};
-use crate::rule::request::{check_bind, check_forget, check_room};
-use crate::view::View;
 use domain::count::check_count;
 use domain::listing::Listing;
 use domain::marks::Marks;
@@ -30,8 +27,7 @@ pub fn open_table(table: &mut [u8], positions: u8) -> Result<Marks, Refusal>
     ensures gives { Gives (first_of (open_tests positions ++ room_tests (length table.old))) result (λ m. New positions (told_with m table.new)) }
     ensures kept { (e : Refusal) → result ≡ Err e → table.new ≡ table.old }
 {
-    check_count(positions)?;
-    check_room(table.len())?;
+    Limits::of(positions, table.len())?.check_room()?;
     put_singles(table, positions);
     let every = all(positions);
     Ok(Marks {
@@ -54,12 +50,7 @@ pub fn reach_table(table: &[u8], positions: u8, mask: u16) -> Result<u16, Refusa
     ensures { Gives (first_of (open_tests positions)) result (λ m. ((f l : ℕ) → Reach (told_of positions table.now f l) mask m)) }
 {
     check_count(positions)?;
-    let marks = Marks {
-        positions,
-        free: 0,
-        linear: 0,
-    };
-    Ok(View { table, marks }.reach(mask))
+    Ok(Groups { table, positions }.reach(mask))
 }
 
 // Binds the position x to the term.
@@ -67,9 +58,9 @@ pub fn bind_table(table: &mut [u8], marks: Marks, x: u8, term: Term) -> Result<M
     ensures gives { Gives (first_of (open_tests marks.positions ++ bind_tests marks.positions x term (length table.old))) result (λ m. Bound (told_with marks table.old) x term (told_with m table.new)) }
     ensures kept { (e : Refusal) → result ≡ Err e → table.new ≡ table.old }
 {
-    check_count(marks.positions)?;
-    check_bind(marks.positions, x, term, table.len())?;
-    Ok(bound(table, marks, x, term))
+    let allowed = Limits::of(marks.positions, table.len())?.check_bind(x, term)?;
+    let mut bench = Bench { table, marks };
+    Ok(bench.bound(allowed))
 }
 
 // Joins the marks and the groups of another description.
@@ -77,9 +68,9 @@ pub fn join_table(table: &mut [u8], marks: Marks, other: Listing<'_>) -> Result<
     ensures gives { Gives (first_of (open_tests marks.positions ++ join_tests marks.positions other.entry.free other.entry.linear other.entry.groups.now (length table.old))) result (λ m. Joined (told_with marks table.old) other.entry.free other.entry.linear other.entry.groups.now (told_with m table.new)) }
     ensures kept { (e : Refusal) → result ≡ Err e → table.new ≡ table.old }
 {
-    check_count(marks.positions)?;
-    check_join(marks.positions, other, table.len())?;
-    Ok(joined(table, marks, other))
+    Limits::of(marks.positions, table.len())?.check_join(other)?;
+    let mut bench = Bench { table, marks };
+    Ok(bench.joined(other))
 }
 
 // Forgets the positions of the mask.
@@ -87,7 +78,7 @@ pub fn forget_table(table: &mut [u8], marks: Marks, mask: u16) -> Result<Marks, 
     ensures gives { Gives (first_of (open_tests marks.positions ++ forget_tests marks.positions mask (length table.old))) result (λ m. Forgotten (told_with marks table.old) mask (told_with m table.new)) }
     ensures kept { (e : Refusal) → result ≡ Err e → table.new ≡ table.old }
 {
-    check_count(marks.positions)?;
-    check_forget(marks.positions, mask, table.len())?;
-    Ok(forgotten(table, marks, mask))
+    Limits::of(marks.positions, table.len())?.check_forget(mask)?;
+    let mut bench = Bench { table, marks };
+    Ok(bench.forgotten(mask))
 }

@@ -1,6 +1,8 @@
 // The rules of bind, join and forget, worked in place on a lent table of groups.
 #![tactic(auto)]
 
+mod bench;
+mod groups;
 pub mod lent;
 mod mask;
 mod reach;
@@ -8,3 +10,4 @@ mod rule;
 #[cfg(test)]
 mod tests;
 mod view;
+pub mod work;

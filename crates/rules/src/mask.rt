@@ -1,14 +1,6 @@
 // Masks of positions that are known to be small enough.
 ghost use Rattle.std.specs.Prelude.{◌≡◌, ◌-◌, ◌^◌, ◌<◌};
 
-// The mask of one position.
-pub(crate) fn single(p: u8) -> u16
-    requires { p < 16 }
-    ensures { result ≡ 2 ^ p }
-{
-    1 << p
-}
-
 // The mask of all positions below n.
 pub(crate) fn all(n: u8) -> u16
     requires { n < 16 }

@@ -3,16 +3,16 @@ ghost use Rattle.std.specs.Prelude.{ℕ};
 ghost use Rattle.domain.specs.Tables.{told_of};
 ghost use Rattle.rules.specs.Reaching.{Reach};
 
-use crate::view::View;
+use crate::groups::Groups;
 use domain::mask::meets;
 use domain::table;
 
-impl View<'_> {
-    // The marks' masks play no part, so what is said holds beside any two.
+impl Groups<'_> {
+    // Whichever masks go with the groups.
     pub(crate) fn reach(self, mask: u16) -> u16
-        ensures { (f l : ℕ) → Reach (told_of self.entry.marks.positions self.entry.table.now f l) mask result }
+        ensures { (f l : ℕ) → Reach (told_of self.entry.positions self.entry.table.now f l) mask result }
     {
-        (1..1u16 << self.marks.positions)
+        (1..1u16 << self.positions)
             .filter(|g| meets(*g, mask) && table::holds(self.table, *g))
             .fold(0, |reached, g| reached | g)
     }

@@ -1,15 +1,17 @@
 // The rules, worked in place on a lent table.
+mod allowed;
 mod bind;
 pub(crate) mod bound;
 mod choice;
 pub(crate) mod forgotten;
-pub(crate) mod join_request;
+mod join_request;
 pub(crate) mod joined;
+pub(crate) mod limits;
 mod linear;
 pub(crate) mod load;
 mod made;
 mod marks;
-pub(crate) mod request;
+mod request;
 mod rewrite;
 mod signs;
 mod walk;

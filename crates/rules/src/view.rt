@@ -1,11 +1,9 @@
 // A lent table, and what is known beside it.
-ghost use Rattle.std.specs.Prelude.{◌<◌};
-
-use domain::marks::Marks;
+use crate::groups::Groups;
 
 #[derive(Clone, Copy)]
 pub(crate) struct View<'a> {
-    pub(crate) table: &'a [u8],
-    pub(crate) marks: Marks,
-    ghost few: { marks.positions < 13 },
+    pub(crate) groups: Groups<'a>,
+    pub(crate) free: u16,
+    pub(crate) linear: u16,
 }

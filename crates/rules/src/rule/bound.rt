@@ -1,37 +1,36 @@
 // A bind, worked in place on a lent table.
-ghost use Rattle.std.specs.Prelude.{◌≡◌, ◌^◌, ◌<◌, ◌≤◌, true, length, count_ones};
+ghost use Rattle.std.specs.Prelude.{◌≡◌};
 ghost use Rattle.domain.specs.Binding.{Bound};
 ghost use Rattle.domain.specs.Tables.{told_with};
+ghost use Rattle.rules.specs.Views.{told_on};
 
+use super::allowed::AllowedBind;
 use super::bind::Bind;
-use super::rewrite::rewrite;
-use crate::view::View;
+use crate::bench::Bench;
 use domain::marks::Marks;
-use domain::term::Term;
 
-// What the rule asks is asked of the old table, and which positions are ground of the new one.
-pub(crate) fn bound(table: &mut [u8], marks: Marks, x: u8, term: Term) -> Marks
-    requires few { marks.positions < 13 }
-    requires position { x < marks.positions }
-    requires held { term.held < 2 ^ marks.positions }
-    requires bare { term.bare ≡ true → count_ones term.held ≡ 1 }
-    requires room { 512 ≤ length table.old }
-    ensures { Bound (told_with marks table.old) x term (told_with result table.new) }
-{
-    let before = View { table, marks };
-    let signs = before.signs_of(x, term);
-    let free = before.stays_free(x, term, signs);
-    let kept = before.stays_linear(x, term, signs);
-    let bind = Bind {
-        x,
-        held: term.held,
-        case: signs.chosen(),
-    };
-    rewrite(table, marks, bind);
-    let after = View { table, marks };
-    Marks {
-        positions: marks.positions,
-        free,
-        linear: kept | free | after.ground_mask(),
+impl Bench<'_> {
+    // What the rule asks is asked of the old table, and which positions are ground of the new one.
+    pub(crate) fn bound(&mut self, allowed: AllowedBind) -> Marks
+        requires { allowed.limits.positions ≡ self.old.marks.positions }
+        ensures gives { Bound (told_on self.old) allowed.x allowed.term (told_with result self.new.table.now) }
+        ensures lent { self.new.table.ghost_name ≡ self.old.table.ghost_name }
+    {
+        let positions = self.marks.positions;
+        let before = self.view();
+        let signs = before.signs_of(allowed);
+        let kept = before.kept(allowed, signs);
+        let bind = Bind {
+            x: allowed.x,
+            held: allowed.term.held,
+            case: signs.chosen(),
+        };
+        self.rewrite(bind);
+        let ground = self.view().groups.ground_mask();
+        Marks {
+            positions,
+            free: kept.free,
+            linear: kept.linear | kept.free | ground,
+        }
     }
 }

@@ -1,29 +1,28 @@
 // Which of the five cases applies.
-ghost use Rattle.std.specs.Prelude.{◌≡◌, ◌^◌, ◌<◌, true, count_ones};
+ghost use Rattle.std.specs.Prelude.{◌≡◌};
 ghost use Rattle.rules.specs.Signs.{Chosen, Seen};
 ghost use Rattle.rules.specs.Views.{told_by};
 
+use super::allowed::AllowedBind;
 use super::signs::{Sign, Signs};
 use crate::view::View;
 use domain::case::Case;
 use domain::mask::has;
-use domain::term::Term;
 
 impl View<'_> {
     // What the rule asks of the position and of the term.
-    pub(crate) fn signs_of(self, x: u8, term: Term) -> Signs
-        requires held { term.held < 2 ^ self.marks.positions }
-        requires bare { term.bare ≡ true → count_ones term.held ≡ 1 }
-        ensures { Seen (told_by self.entry) x term result }
+    pub(crate) fn signs_of(self, bind: AllowedBind) -> Signs
+        requires { bind.limits.positions ≡ self.groups.positions }
+        ensures { Seen (told_by self.entry) bind.x bind.term result }
     {
         Signs {
             position: Sign {
-                free: has(self.marks.free, x),
-                linear: has(self.marks.linear, x),
+                free: has(self.free, bind.x),
+                linear: has(self.linear, bind.x),
             },
             term: Sign {
-                free: self.is_free(term),
-                linear: self.is_linear(term),
+                free: self.is_free(bind),
+                linear: self.is_linear(bind),
             },
         }
     }

@@ -1,36 +1,36 @@
 // Whether a term is free, and whether it is linear.
-ghost use Rattle.std.specs.Prelude.{◌≡◌, ◌^◌, ◌<◌, true, ◌⊎◌, Decides, count_ones};
+ghost use Rattle.std.specs.Prelude.{◌≡◌, ◌<◌, ◌⊎◌, Decides};
 ghost use Rattle.domain.specs.Binding.{FreeTerm, LinearTerm, Once};
 ghost use Rattle.domain.specs.Told.{Ground};
 ghost use Rattle.rules.specs.Views.{told_by};
 
-use crate::mask::single;
+use super::allowed::AllowedBind;
 use crate::view::View;
-use domain::mask::{has, meets, without};
+use domain::mask::{has, meets, minus, single};
 use domain::term::Term;
 
 impl View<'_> {
     // A bare term holds one position.
-    pub(crate) fn is_free(self, term: Term) -> bool
-        requires { term.bare ≡ true → count_ones term.held ≡ 1 }
-        ensures { Decides result (FreeTerm (told_by self.entry) term) }
+    pub(crate) fn is_free(self, bind: AllowedBind) -> bool
+        ensures { Decides result (FreeTerm (told_by self.entry) bind.term) }
     {
-        term.bare && meets(term.held, self.marks.free)
+        bind.term.bare && meets(bind.term.held, self.free)
     }
 
-    pub(crate) fn is_linear(self, term: Term) -> bool
-        requires { term.held < 2 ^ self.marks.positions }
-        ensures { Decides result (LinearTerm (told_by self.entry) term) }
+    pub(crate) fn is_linear(self, bind: AllowedBind) -> bool
+        requires { bind.limits.positions ≡ self.groups.positions }
+        ensures { Decides result (LinearTerm (told_by self.entry) bind.term) }
     {
-        (0..self.marks.positions).all(|p| !has(term.held, p) || self.is_linear_at(term, p))
+        let term = bind.term;
+        (0..self.groups.positions).all(|p| !has(term.held, p) || self.is_linear_at(term, p))
     }
 
     // Whether the position is ground, or linear and held once.
     fn is_linear_at(self, term: Term, p: u8) -> bool
-        requires { p < self.marks.positions }
+        requires { p < self.groups.positions }
         ensures { Decides result (Ground (told_by self.entry) p ⊎ Once (told_by self.entry) term p) }
     {
-        self.reach(single(p)) == 0 || self.is_once(term, p)
+        self.groups.reach(single(p)) == 0 || self.is_once(term, p)
     }
 
     // Whether the position is linear, held once, and shares with no other position of the term.
@@ -38,11 +38,11 @@ impl View<'_> {
         requires { p < 16 }
         ensures { Decides result (Once (told_by self.entry) term p) }
     {
-        if !has(self.marks.linear, p) || has(term.repeated, p) {
+        if !has(self.linear, p) || has(term.repeated, p) {
             return false;
         }
         let alone = single(p);
-        let others = without(self.reach(alone), alone, true);
+        let others = minus(self.groups.reach(alone), alone);
         !meets(others, term.held)
     }
 }

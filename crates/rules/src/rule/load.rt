@@ -4,7 +4,7 @@ ghost use Rattle.domain.specs.Coverage.{Listed};
 ghost use Rattle.domain.specs.Opening.{Single};
 ghost use Rattle.domain.specs.Tables.{holds_bit};
 
-use crate::mask::single;
+use domain::mask::single;
 use domain::table;
 
 // Puts the groups beside those that the table has. A group past the table's end is left out.

@@ -4,30 +4,28 @@ ghost use Rattle.domain.specs.Binding.{Made, NewGroup};
 ghost use Rattle.domain.specs.Filling.{Touching, Side};
 ghost use Rattle.domain.specs.Groups.{Paired, Closure, Extended};
 ghost use Rattle.domain.specs.Told.{Group};
-ghost use Rattle.rules.specs.Views.{told_by};
+ghost use Rattle.rules.specs.Views.{told_in};
 
 use super::bind::Bind;
-use crate::mask::single;
-use crate::view::View;
+use crate::groups::Groups;
 use domain::case::Case;
-use domain::mask::{has, meets};
-use domain::table::is_group;
+use domain::mask::{has, meets, single};
 
-impl View<'_> {
+impl Groups<'_> {
     // Whether u is a group after the bind. What is made holds x and meets the term; the rest does neither.
     pub(crate) fn becomes_group(self, bind: Bind, u: u16) -> bool
-        ensures { Decides result (NewGroup (Group (told_by self.entry)) bind.x bind.held bind.case u) }
+        ensures { Decides result (NewGroup (Group (told_in self.entry)) bind.x bind.held bind.case u) }
     {
         match (has(u, bind.x), meets(u, bind.held)) {
             (true, true) => self.is_made(bind, u),
-            (false, false) => is_group(self.table, self.marks.positions, u),
+            (false, false) => self.is_group(u),
             _ => false,
         }
     }
 
     // Whether u is one of the groups that the case makes.
     fn is_made(self, bind: Bind, u: u16) -> bool
-        ensures { Decides result (Made (Group (told_by self.entry)) bind.x bind.held bind.case u) }
+        ensures { Decides result (Made (Group (told_in self.entry)) bind.x bind.held bind.case u) }
     {
         let bound = single(bind.x);
         let held = bind.held;
@@ -42,7 +40,7 @@ impl View<'_> {
 
     // Whether u is united of groups that meet a and of one that meets b, with shared ones beside it.
     fn closed_with_one(self, a: u16, b: u16, u: u16) -> bool
-        ensures { Decides result (Paired (Closure (Side (Group (told_by self.entry)) a)) (Extended (Side (Group (told_by self.entry)) b) (Touching (Group (told_by self.entry)) a b)) u) }
+        ensures { Decides result (Paired (Closure (Side (Group (told_in self.entry)) a)) (Extended (Side (Group (told_in self.entry)) b) (Touching (Group (told_in self.entry)) a b)) u) }
     {
         let united = self.hull(a, a, u);
         if united == 0 {
@@ -53,7 +51,7 @@ impl View<'_> {
 
     // Whether u is united of groups that meet a and of groups that meet b.
     fn both_closed(self, a: u16, b: u16, u: u16) -> bool
-        ensures { Decides result (Paired (Closure (Side (Group (told_by self.entry)) a)) (Closure (Side (Group (told_by self.entry)) b)) u) }
+        ensures { Decides result (Paired (Closure (Side (Group (told_in self.entry)) a)) (Closure (Side (Group (told_in self.entry)) b)) u) }
     {
         let left = self.hull(a, a, u);
         let right = self.hull(b, b, u);

@@ -1,5 +1,5 @@
 // What a bind leaves of the free and of the linear mask.
-ghost use Rattle.std.specs.Prelude.{ℕ, ◌<◌};
+ghost use Rattle.std.specs.Prelude.{ℕ};
 ghost use Rattle.domain.specs.Binding.{StaysFree, StaysLinear};
 ghost use Rattle.domain.specs.Masks.{In};
 ghost use Rattle.domain.specs.Tables.{told_of};
@@ -7,45 +7,46 @@ ghost use Rattle.domain.specs.Told.{Ground};
 ghost use Rattle.rules.specs.Signs.{Seen};
 ghost use Rattle.rules.specs.Views.{told_by};
 
+use super::allowed::AllowedBind;
 use super::signs::Signs;
-use crate::mask::{all, single};
+use crate::groups::Groups;
+use crate::mask::all;
 use crate::view::View;
-use domain::mask::without;
-use domain::term::Term;
+use domain::mask::{minus, single, without};
+
+#[derive(Clone, Copy)]
+pub(crate) struct Kept {
+    pub(crate) free: u16,
+    pub(crate) linear: u16,
+}
 
 impl View<'_> {
-    pub(crate) fn stays_free(self, x: u8, term: Term, signs: Signs) -> u16
-        requires position { x < 16 }
-        requires seen { Seen (told_by self) x term signs }
-        ensures kept { (p : ℕ) → StaysFree (told_by self.entry) x term p → In p result }
-        ensures only { (p : ℕ) → In p result → StaysFree (told_by self.entry) x term p }
+    // The positions that stay free, and those that stay linear.
+    pub(crate) fn kept(self, bind: AllowedBind, signs: Signs) -> Kept
+        requires seen { Seen (told_by self) bind.x bind.term signs }
+        ensures free_kept { (p : ℕ) → StaysFree (told_by self.entry) bind.x bind.term p → In p result.free }
+        ensures free_only { (p : ℕ) → In p result.free → StaysFree (told_by self.entry) bind.x bind.term p }
+        ensures linear_kept { (p : ℕ) → StaysLinear (told_by self.entry) bind.x bind.term p → In p result.linear }
+        ensures linear_only { (p : ℕ) → In p result.linear → StaysLinear (told_by self.entry) bind.x bind.term p }
     {
-        let near_x = self.reach(single(x));
-        let near_term = self.reach(term.held);
-        let kept = without(self.marks.free, near_x, !signs.term.free);
-        without(kept, near_term, !signs.position.free)
+        let near_x = self.groups.reach(single(bind.x));
+        let near_term = self.groups.reach(bind.term.held);
+        let far_free = without(self.free, near_x, !signs.term.free);
+        let free = without(far_free, near_term, !signs.position.free);
+        let apart = minus(self.linear, near_x & near_term);
+        let far_linear = without(apart, near_x, !signs.term.linear);
+        let linear = without(far_linear, near_term, !signs.position.linear);
+        Kept { free, linear }
     }
+}
 
-    pub(crate) fn stays_linear(self, x: u8, term: Term, signs: Signs) -> u16
-        requires position { x < 16 }
-        requires seen { Seen (told_by self) x term signs }
-        ensures kept { (p : ℕ) → StaysLinear (told_by self.entry) x term p → In p result }
-        ensures only { (p : ℕ) → In p result → StaysLinear (told_by self.entry) x term p }
-    {
-        let near_x = self.reach(single(x));
-        let near_term = self.reach(term.held);
-        let apart = without(self.marks.linear, near_x & near_term, true);
-        let kept = without(apart, near_x, !signs.term.linear);
-        without(kept, near_term, !signs.position.linear)
-    }
-
-    // The positions that no group of the table holds. The marks' masks play no part, so what is said
-    // holds beside any two.
+impl Groups<'_> {
+    // The positions that no group holds, whichever masks go with the groups.
     pub(crate) fn ground_mask(self) -> u16
-        ensures made { (f l p : ℕ) → In p result → Ground (told_of self.entry.marks.positions self.entry.table.now f l) p }
-        ensures all { (f l p : ℕ) → Ground (told_of self.entry.marks.positions self.entry.table.now f l) p → In p result }
+        ensures made { (f l p : ℕ) → In p result → Ground (told_of self.entry.positions self.entry.table.now f l) p }
+        ensures all { (f l p : ℕ) → Ground (told_of self.entry.positions self.entry.table.now f l) p → In p result }
     {
-        let every = all(self.marks.positions);
-        without(every, self.reach(every), true)
+        let every = all(self.positions);
+        minus(every, self.reach(every))
     }
 }

@@ -1,58 +1,43 @@
 // What a bind and a forget refuse, in their order.
 ghost use Rattle.domain.specs.Refusals.{first_of};
-ghost use Rattle.rules.specs.Allowed.{BindAllowed};
-ghost use Rattle.domain.specs.Requests.{bind_tests, forget_tests, ill_term, reaches, room_tests, Gives};
+ghost use Rattle.domain.specs.Requests.{bind_tests, forget_tests, ill_term, Gives};
 ghost use Rattle.std.specs.Prelude.{◌≡◌, ◌^◌, ◌<◌, ◌≤◌};
 
-use crate::mask::single;
-use domain::mask::within;
+use super::allowed::AllowedBind;
+use super::limits::Limits;
+use domain::mask::{single, within};
 use domain::refusal::Refusal;
 use domain::term::Term;
 
-// What a bind at so many positions and with so many bytes of scratch refuses.
-pub(crate) fn check_bind(positions: u8, x: u8, term: Term, scratch: usize) -> Result<(), Refusal>
-    requires { positions < 13 }
-    ensures { Gives (first_of (bind_tests positions x term scratch)) result (λ u. BindAllowed positions x term scratch) }
-{
-    if x >= positions || exceeds(positions, term.held) || exceeds(positions, term.repeated) {
-        return Err(Refusal::Position);
+impl Limits {
+    pub(crate) fn check_bind(self, x: u8, term: Term) -> Result<AllowedBind, Refusal>
+        ensures { Gives (first_of (bind_tests self.positions x term self.bytes)) result (λ b. (b.limits ≡ self) × (b.x ≡ x) × (b.term ≡ term)) }
+    {
+        if x >= self.positions || self.exceeded_by(term.held) || self.exceeded_by(term.repeated) {
+            return Err(Refusal::Position);
+        }
+        if is_ill(term) {
+            return Err(Refusal::Marks);
+        }
+        if term.bare && term.held == single(x) {
+            return Err(Refusal::Itself);
+        }
+        self.check_room()?;
+        Ok(AllowedBind {
+            limits: self,
+            x,
+            term,
+        })
     }
-    if is_ill(term) {
-        return Err(Refusal::Marks);
-    }
-    if term.bare && term.held == single(x) {
-        return Err(Refusal::Itself);
-    }
-    check_room(scratch)
-}
 
-// Refuses a table of fewer bytes than the masks of 12 positions have bits.
-pub(crate) fn check_room(bytes: usize) -> Result<(), Refusal>
-    ensures { Gives (first_of (room_tests bytes)) result (λ u. 512 ≤ bytes) }
-{
-    if bytes < 512 {
-        return Err(Refusal::Room);
+    pub(crate) fn check_forget(self, mask: u16) -> Result<(), Refusal>
+        ensures { Gives (first_of (forget_tests self.positions mask self.bytes)) result (λ u. (mask < 2 ^ self.positions) × (512 ≤ self.bytes)) }
+    {
+        if self.exceeded_by(mask) {
+            return Err(Refusal::Position);
+        }
+        self.check_room()
     }
-    Ok(())
-}
-
-// Whether the mask has a position of n or more.
-pub(crate) fn exceeds(n: u8, mask: u16) -> bool
-    requires { n < 16 }
-    ensures { result ≡ reaches n mask }
-{
-    mask >= 1 << n
-}
-
-// What a forget refuses.
-pub(crate) fn check_forget(positions: u8, mask: u16, scratch: usize) -> Result<(), Refusal>
-    requires { positions < 13 }
-    ensures { Gives (first_of (forget_tests positions mask scratch)) result (λ u. (mask < 2 ^ positions) × (512 ≤ scratch)) }
-{
-    if exceeds(positions, mask) {
-        return Err(Refusal::Position);
-    }
-    check_room(scratch)
 }
 
 // Whether the masks are none that a term can have.

@@ -1,18 +1,24 @@
-// Walks over the groups inside a mask u.
-ghost use Rattle.std.specs.Prelude.{Decides};
+// Which masks are groups, and walks over the groups inside a mask u.
+ghost use Rattle.std.specs.Prelude.{◌≡◌, Decides};
 ghost use Rattle.domain.specs.Filling.{Touching, Side, Hull, Filled, Fills, FilledBoth};
 ghost use Rattle.domain.specs.Told.{Group};
-ghost use Rattle.rules.specs.Views.{told_by};
+ghost use Rattle.rules.specs.Views.{told_in};
 
-use crate::view::View;
+use crate::groups::Groups;
 use domain::mask::meets;
 use domain::subsets::Subsets;
-use domain::table::is_group;
+use domain::table;
 
-impl View<'_> {
+impl Groups<'_> {
+    pub(crate) fn is_group(self, g: u16) -> bool
+        ensures { result ≡ (told_in self.entry).groups g }
+    {
+        table::is_group(self.table, self.positions, g)
+    }
+
     // The union of the groups inside u that meet both masks.
     pub(crate) fn hull(self, a: u16, b: u16, u: u16) -> u16
-        ensures { Hull (Touching (Group (told_by self.entry)) a b) u result }
+        ensures { Hull (Touching (Group (told_in self.entry)) a b) u result }
     {
         Subsets::of(u).fold(0, |united, s| {
             if self.touches(a, b, s) {
@@ -26,7 +32,7 @@ impl View<'_> {
     // Whether some group inside u that meets the mask a makes u with the base. It holds all that the base
     // lacks of u, so only what it has in common with the base is left to try.
     pub(crate) fn filled(self, a: u16, base: u16, u: u16) -> bool
-        ensures { Decides result (Filled (Side (Group (told_by self.entry)) a) base u) }
+        ensures { Decides result (Filled (Side (Group (told_in self.entry)) a) base u) }
     {
         let common = u & base;
         let lacking = u ^ common;
@@ -36,22 +42,22 @@ impl View<'_> {
 
     // Whether g is a group that meets the mask a and makes u with the base.
     fn fills(self, a: u16, base: u16, u: u16, g: u16) -> bool
-        ensures { Decides result (Fills (Side (Group (told_by self.entry)) a) base u g) }
+        ensures { Decides result (Fills (Side (Group (told_in self.entry)) a) base u g) }
     {
         base | g == u && self.touches(a, a, g)
     }
 
     // Whether two groups inside u, of which one meets a and one meets b, make u with the base.
     pub(crate) fn filled_both(self, a: u16, b: u16, base: u16, u: u16) -> bool
-        ensures { Decides result (FilledBoth (Side (Group (told_by self.entry)) a) (Side (Group (told_by self.entry)) b) base u) }
+        ensures { Decides result (FilledBoth (Side (Group (told_in self.entry)) a) (Side (Group (told_in self.entry)) b) base u) }
     {
         Subsets::of(u).any(|s| self.touches(a, a, s) && self.filled(b, base | s, u))
     }
 
     // Whether the mask s is a group that meets both a and b.
     fn touches(self, a: u16, b: u16, s: u16) -> bool
-        ensures { Decides result (Touching (Group (told_by self.entry)) a b s) }
+        ensures { Decides result (Touching (Group (told_in self.entry)) a b s) }
     {
-        meets(s, a) && meets(s, b) && is_group(self.table, self.marks.positions, s)
+        meets(s, a) && meets(s, b) && self.is_group(s)
     }
 }

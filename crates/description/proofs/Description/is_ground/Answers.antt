@@ -1,5 +1,4 @@
-use Rattle.std.proofs.Common.{◌<◌, ℕ, ◌*◌, ◌%◌, ◌^◌, arith}
-use Rattle.std.proofs.lemmas.Nat.{one_shl}
+use Rattle.std.proofs.Common.{◌<◌, ℕ, ◌^◌, arith}
 use Rattle.std.proofs.lemmas.Bool.{lt-leb}
 use Rattle.domain.specs.Tables.{told_of}
 use Rattle.description.specs.Descriptions.{told}
@@ -15,6 +14,6 @@ returns c =
     let low = (gave _ _ (λ u. p < d.positions) c.in_ok-check_position.ensures).1 in
     let r = c.in_ok-reached.reached in
     let reach : Reach (told d) (2 ^ p) r =
-    rw (← one_shl p 16 (omega (arith, low, d.counted.1)))
-    ((gave _ r (λ (m : ℕ). (f l : ℕ) → Reach (told_of d.positions d.table f l) ((1 * 2 ^ p) % 2 ^ 16) m) c.in_ok-reached.ensures).1 d.free d.linear) in
+    rw (← c.single.ensures.inside (omega (arith, low, d.counted.1)))
+    ((gave _ r (λ (m : ℕ). (f l : ℕ) → Reach (told_of d.positions d.table f l) c.single.result m) c.in_ok-reached.ensures).1 d.free d.linear) in
     rw (lt-leb d.positions p low) (decides_ground (told d) p r low reach)

@@ -8,6 +8,7 @@ loop-p-init c = singles_none _ (λ g. rw (c.fill.ensures.after (λ y e. e)) (no_
 
 pub loop-p-preserved : goal.loop-p-preserved
 loop-p-preserved c =
-    singles_more _ _ c.loop-p.p _ c.single.ensures c.loop-p.invariant
-    (c.put.ensures.at (omega (arith, c.single.ensures, pow_below c.loop-p.p 12 (omega arith))))
+    let single = c.single.ensures.inside (omega arith) in
+    singles_more _ _ c.loop-p.p _ single c.loop-p.invariant
+    (c.put.ensures.at (omega (arith, single, pow_below c.loop-p.p 12 (omega arith))))
     c.put.ensures.others

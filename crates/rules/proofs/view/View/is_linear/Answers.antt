@@ -7,9 +7,9 @@ use Rattle.rules.proofs.view.View.is_linear.Goals as goal
 pub returns : goal.returns
 returns c =
     let d = told_by c.args.self in
-    let t = c.args.term in
-    let n = c.args.self.marks.positions in
-    decides_linear d t n c.all.result c.requires
+    let t = c.args.bind.term in
+    let n = c.args.self.groups.positions in
+    decides_linear d t n c.all.result (search rules)
     (cases_from_all _ _ _ (Passes d t) (Fails d t) c.all.ensures.ran (YieldsList-from_range 0 n n refl (omega arith))
     (λ p q k. (search rules, search rules))
     (λ p q k. record { held = search rules; neither = search rules }))
