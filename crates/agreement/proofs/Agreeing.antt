@@ -1,22 +1,13 @@
 -- Keepers that tell alike descriptions answer alike, and go on telling alike descriptions.
 use Rattle.std.proofs.Common.{◌≡◌, ℕ, ◌≤◌, Bool, true, false, ◌⊎◌, Some, None, Ok, Err, Decides, Option, Result, sym, refl, ap, ◌∙◌, subst, inl, inr, arith}
 use Rattle.coverage.proofs.CoreLeast.{core_fits}
-use Rattle.coverage.proofs.Cover.{alike_turned, same_trans}
+use Rattle.coverage.proofs.Cover.{alike_turned, alike_trans}
 use Rattle.domain.specs.Coverage.{Alike, CoreFits}
 use Rattle.domain.specs.Told.{Told}
 use Rattle.domain.specs.declared.refusal.Refusal.{Refusal}
 use Rattle.domain.specs.declared.refusal.Refusal.TheVariants.{Capacity}
 use Rattle.keeper.specs.Calls.{Changes, Answers, fault_of}
 use Rattle.keeper.specs.declared.fault.KeeperFault.{KeeperFault}
-
-pub alike_trans : {d e f : Told} → Alike d e → Alike e f → Alike d f
-alike_trans h k =
-    record {
-      positions = h.positions ∙ k.positions;
-      free = h.free ∙ k.free;
-      linear = h.linear ∙ k.linear;
-      cover = same_trans h.cover k.cover;
-    }
 
 alike_at : {d e e' : Told} → e' ≡ e → Alike d e → Alike d e'
 alike_at {d} p h = subst (λ (x : Told). Alike d x) (sym p) h

@@ -2,7 +2,8 @@
 use Rattle.std.proofs.Common.{◌≡◌, ℕ, not, eqb, List, [], ◌∷◌, Some, None, Ok, Err, Option, Result, sym, refl, ◌∙◌, subst, arith}
 use Rattle.coverage.proofs.BindAlike.{bind_alike}
 use Rattle.coverage.proofs.CoreLeast.{core_fits}
-use Rattle.coverage.proofs.Cover.{alike_turned, same_groups}
+use Rattle.coverage.proofs.Cover.{alike_turned, alike_trans}
+use Rattle.coverage.proofs.Places.{new_alike}
 use Rattle.coverage.proofs.ForgetCover.{forget_alike}
 use Rattle.coverage.proofs.JoinCover.{join_alike}
 use Rattle.domain.proofs.Bits.{same_mask}
@@ -18,22 +19,12 @@ use Rattle.domain.specs.declared.refusal.Refusal.{Refusal}
 use Rattle.domain.specs.declared.refusal.Refusal.TheVariants.{Order}
 use Rattle.keeper.specs.Calls.{Changes}
 use Rattle.keeper.specs.declared.fault.KeeperFault.{KeeperFault}
-use Rattle.agreement.proofs.Agreeing.{alike_ends, alike_trans}
+use Rattle.agreement.proofs.Agreeing.{alike_ends}
 use Rattle.agreement.specs.Reckoning as reckoning
 use Rattle.agreement.specs.Reckoning.{Makes, refused, exceeds, makes, Reckons, ReckonsAll, Reckoned, Given}
 use Rattle.agreement.specs.Sessions.{Call, bind, join, forget, ground, free, linear, pair, write_out, Answer, Called, Changed, Session, done, calls}
 
--- there is one new description of n positions
-pub new_alike : {n : ℕ} {d e : Told} → New n d → New n e → Alike d e
-new_alike h k =
-    record {
-      positions = h.positions ∙ sym k.positions;
-      free = same_mask (record { each = λ p i. k.free_made p (h.free_only p i) }) (record { each = λ p i. h.free_made p (k.free_only p i) });
-      linear = same_mask (record { each = λ p i. k.linear_made p (h.linear_only p i) }) (record { each = λ p i. h.linear_made p (k.linear_only p i) });
-      cover = same_groups (λ g i. k.groups_made g (h.groups_only g i)) (λ g i. h.groups_made g (k.groups_only g i));
-    }
-
-clash : {A : Type 0} {r : Refusal} → None ≡ Some r → A
+pub clash : {A : Type 0} {r : Refusal} → None ≡ Some r → A
 clash h = absurd (let z : ◌≡◌ {A = ℕ} 0 1 = cc in omega arith)
 
 -- what is reckoned of a change, and what is told after it

@@ -2,12 +2,11 @@
 use Rattle.std.proofs.Common.{◌≡◌, ℕ, ◌+◌, ◌<◌, ◌≤◌, true, not, List, [], ◌∷◌, ◌++◌, length, drop, replicate, Ok, sym, refl, ap, ◌∙◌, subst, arith, take_at, ne_eqb}
 use lib.ListN.{length-replicate}
 use Rattle.coverage.proofs.CoreLeast.{core_kept, same_core}
-use Rattle.coverage.proofs.Cover.{alike_turned, same_turned}
+use Rattle.coverage.proofs.Cover.{alike_turned, same_turned, alike_trans}
 use Rattle.coverage.proofs.ExistsCore.{core_listed}
 use Rattle.domain.specs.Coverage.{Alike, CoreList, Listed}
 use Rattle.domain.specs.Told.{Told, Group}
 use Rattle.keeper.specs.Calls.{opened}
-use Rattle.agreement.proofs.Agreeing.{alike_trans}
 use Rattle.agreement.proofs.Calls.{session_same}
 use Rattle.agreement.proofs.Reckoned.{reckoned_told}
 use Rattle.agreement.proofs.Rules.{reckoned_lawful, reckoned_positions}

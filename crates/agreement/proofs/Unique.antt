@@ -12,14 +12,12 @@ use Rattle.domain.specs.Joining.{Joined}
 use Rattle.domain.specs.Told.{Told, Group, Lawful}
 use Rattle.domain.specs.declared.refusal.Refusal.{Refusal}
 use Rattle.keeper.specs.Calls.{bind_refusal, join_refusal, forget_refusal}
+use Rattle.agreement.proofs.Reckoned.{clash}
 use Rattle.agreement.proofs.Rules.{reckons_lawful, join_kept, forget_kept}
 use Rattle.agreement.specs.Laws.{OneReckoned}
 use Rattle.agreement.specs.Reckoning as reckoning
 use Rattle.agreement.specs.Reckoning.{Makes, refused, exceeds, makes, Reckons, ReckonsAll, Reckoned}
 use Rattle.agreement.specs.Sessions.{Call, bind, join, forget, ground, free, linear, pair, write_out}
-
-clash : {A : Type 0} {r : Refusal} → None ≡ Some r → A
-clash h = absurd (let z : ◌≡◌ {A = ℕ} 0 1 = cc in omega arith)
 
 -- a change has something reckoned of it, where its rule has a result that fits or does not
 makes_some : (k : ℕ) (o : Option Refusal) (Rule : Told → Type 0) (d : Told)

@@ -52,6 +52,7 @@ pub fn give_all<K: Keeper>(
     ensures same_capacity { K.Keeper.capacity keeper.new ≡ K.Keeper.capacity keeper.old }
 {
     let number = calls.len().min(answers.len());
+    // not a `zip` with `iter_mut`: no value is known of a list behind its adapters
     for (i, call) in calls[..number].iter().enumerate() {
         answers[i] = give(keeper, *call, scratch, list);
     }

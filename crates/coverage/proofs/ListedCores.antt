@@ -1,5 +1,5 @@
 -- Writing the core groups into a list, in ascending order.
-use Rattle.std.proofs.Common.{◌≡◌, ℕ, ◌+◌, ◌<◌, ◌≤◌, Bool, true, false, ◌||◌, eqb, ltb, ◌⊎◌, List, [], ◌∷◌, ◌++◌, length, take, drop, set, None, Ok, sym, refl, ap, ◌∙◌, subst, inl, inr, arith, length-append, length-drop, take_at, ltb-false}
+use Rattle.std.proofs.Common.{◌≡◌, ℕ, ◌+◌, ◌<◌, ◌≤◌, ◌⊎◌, List, [], ◌∷◌, ◌++◌, length, take, drop, set, sym, refl, ap, ◌∙◌, subst, inl, inr, arith, length-append, length-drop, take_at}
 use native.Mathlib.Decide.{ℕ_discrete}
 use Rattle.std.specs.List.{AllByRecursion}
 use Rattle.domain.specs.Coverage.{Core, CoreFits, Listed, here, there}
@@ -9,9 +9,6 @@ use Rattle.coverage.proofs.Counting.{once_le, empty_listed}
 use Rattle.coverage.proofs.ExistsFit.{above_distinct}
 use Rattle.coverage.proofs.Pairs.{core_as}
 use Rattle.coverage.specs.Listing.{FillsCore}
-use Rattle.domain.specs.Refusals.{first_of, pick}
-use Rattle.domain.specs.Requests.{Gives, open_tests}
-use Rattle.domain.specs.declared.refusal.Refusal.TheVariants.{Count}
 
 listed_front : {g : ℕ} {gs : List ℕ} (h : ℕ) → Listed g gs → Listed g (gs ++ h ∷ [])
 listed_front h here = here
@@ -137,12 +134,3 @@ fills_as to from w =
       counted = w.counted;
       at_start = w.at_start;
     }
-
--- the number of positions is not refused where a count is given
-pub counted_few : {A : Type 0} (n : ℕ) (k : A) (P : A → Type 0) → Gives (first_of (open_tests n)) (Ok k) P → (first_of (open_tests n) ≡ None) × (n < 13) × P k
-counted_few {A} n k P h = go (eqb n 0) (ltb 12 n) refl h
-  where
-    go : (a b : Bool) → ltb 12 n ≡ b → Gives (pick (a || b) Count None) (Ok k) P → (pick (a || b) Count None ≡ None) × (n < 13) × P k
-    go false false e h = (refl, (let few = ltb-false 12 n e in omega arith), h)
-    go false true e h = absurd (let q = h in let z : ◌≡◌ {A = ℕ} 0 1 = cc in omega arith)
-    go true b e h = absurd (let q = h in let z : ◌≡◌ {A = ℕ} 0 1 = cc in omega arith)

@@ -23,6 +23,7 @@ impl Groups<'_> {
         if !is_group(self.table, self.positions, g) {
             return false;
         }
+        // nested loops, left by label at the first open pair: a form that the project keeps
         let mut open = false;
         'pairs: for p in 0u8..16 {
             for q in p..16 {
@@ -40,6 +41,7 @@ impl Groups<'_> {
         ensures { Gives (first_of (open_tests self.now.positions)) result (λ k. (f l : ℕ) → CoreCount (Group (told_of self.now.positions self.now.table.now f l)) k) }
     {
         check_count(self.positions)?;
+        // not `filter` and `count`, whose number is a usize
         let mut count = 0;
         for g in 1..1u16 << self.positions {
             if self.is_core(g) {

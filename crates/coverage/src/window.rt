@@ -1,5 +1,5 @@
 // What the groups of a table cover in a window.
-ghost use Rattle.std.specs.Prelude.{◌≡◌, ℕ, Decides};
+ghost use Rattle.std.specs.Prelude.{ℕ, Decides};
 ghost use Rattle.coverage.specs.Walks.{TableGroup, Holding};
 ghost use Rattle.domain.specs.Coverage.{Covers};
 ghost use Rattle.domain.specs.Told.{Group};

@@ -12,7 +12,8 @@ pub trait Keyed {
     fn key(&self) -> Self::Key
         ensures { result ≡ key self.now };
 
-    // Is this the entry's key?
+    // Is this the entry's key? Each impl compares by `==`; one body for all would need a second law, that
+    // `==` of keys decides identity, in place of that line.
     fn has_key(&self, wanted: &Self::Key) -> bool
         ensures { Decides result (key self.now ≡ wanted.now) };
 }

@@ -4,7 +4,7 @@ ghost use Rattle.std.specs.Prelude.{◌≤◌, length};
 mod calls;
 
 // A roll: an ordered list over lent memory. The entries in use stand at the start of the slice, in
-// ascending order of their keys, and those behind them are spare.
+// ascending order of their keys, and those behind them are spare. Nothing is allocated, so it is no Vec.
 #[derive(Drop)]
 pub struct Roll<'a, T> {
     entries: &'a mut [T],

@@ -15,6 +15,7 @@ pub fn holds_key<T: Keyed>(entries: &[T], key: &T::Key) -> bool
 pub fn count_key<T: Keyed>(entries: &[T], key: &T::Key) -> usize
     ensures { Counts T.Keyed.key key.now entries.now result }
 {
+    // not `filter` and `count`: what they give is known only of a test that computes
     let mut count = 0;
     for entry in entries {
         if entry.has_key(key) {

@@ -1,4 +1,3 @@
 pub mod Marking
 pub mod Meanings
 pub mod Runs
-pub mod Mapped

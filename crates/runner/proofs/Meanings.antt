@@ -1,10 +1,10 @@
 -- Keepers with room that play one script write the same marks and end alike.
 use Rattle.std.proofs.Common.{◌≡◌, ℕ, ◌+◌, ◌≤◌, Bool, not, ◌||◌, eqb, ltb, ◌⊎◌, List, [], ◌∷◌, ◌++◌, length, drop, Some, None, Ok, Err, Option, Result, sym, refl, ap, ◌∙◌, subst, inl, inr, arith}
-use Rattle.agreement.proofs.Agreeing.{answers_agree, alike_ends, alike_trans, fits_more}
-use Rattle.agreement.proofs.Reckoned.{new_alike}
+use Rattle.agreement.proofs.Agreeing.{answers_agree, alike_ends, fits_more}
+use Rattle.coverage.proofs.Places.{new_alike}
 use Rattle.coverage.proofs.BindAlike.{bind_alike}
 use Rattle.coverage.proofs.CoreLeast.{core_fits}
-use Rattle.coverage.proofs.Cover.{alike_turned, same_turned}
+use Rattle.coverage.proofs.Cover.{alike_turned, same_turned, alike_trans}
 use Rattle.coverage.proofs.ForgetCover.{forget_alike}
 use Rattle.coverage.proofs.JoinCover.{join_alike}
 use Rattle.coverage.proofs.Places.{share_kept, ground_kept}

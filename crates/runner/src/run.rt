@@ -60,6 +60,7 @@ fn run_steps<K: Keeper>(
         at: 0,
         step: 0,
     };
+    // no index: where the next record starts is known once one is read
     while cursor.at < sheet.len() {
         cursor = take_step(keeper, sheet, cursor, marks, groups, scratch).map_err(|fault| fault.at(
             cursor.step,

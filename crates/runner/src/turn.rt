@@ -50,6 +50,7 @@ pub(crate) fn take_step<K: Keeper>(
     let answer = serve(keeper, sheet, next.step, groups, scratch)?;
     // there is room, and no earlier mark has this place
     let _ = marks.add(StepMark {
+        // the cast narrows; it is proved to fit, so there is no error to give
         place: cursor.at as u16,
         kind: next.step.kind(),
         answer,

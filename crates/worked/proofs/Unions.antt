@@ -1,7 +1,7 @@
 -- Unions of listed groups: pairs, closures, and lists extended by a closure.
 use Rattle.std.proofs.Common.{◌≡◌, ℕ, ◌⊎◌, List, [], ◌∷◌, sym, ap, ◌∙◌, subst, inl, inr}
 use lib.Bits.{bit_or}
-use Rattle.domain.proofs.Bits.{same_mask, union_within, within_left, within_right, within_self, within_trans}
+use Rattle.domain.proofs.Bits.{or_comm, same_mask, union_within, within_left, within_right, within_self, within_trans}
 use Rattle.domain.specs.Coverage.{Listed, here, there}
 use Rattle.domain.specs.Groups.{Paired, Closure, one, more, Extended, alone, joined}
 use Rattle.domain.specs.Masks.{Within}
@@ -14,12 +14,6 @@ or_self a = same_mask (union_within (within_self a) (within_self a)) (within_lef
 
 or_again : (a b : ℕ) → bit_or a (bit_or a b) ≡ bit_or a b
 or_again a b = same_mask (union_within (within_left a b) (within_self (bit_or a b))) (within_right a (bit_or a b))
-
-or_turned : (a b : ℕ) → bit_or a b ≡ bit_or b a
-or_turned a b = same_mask (turn a b) (turn b a)
-  where
-    turn : (a b : ℕ) → Within (bit_or a b) (bit_or b a)
-    turn a b = union_within (within_right b a) (within_left b a)
 
 or_swapped : (a b c : ℕ) → bit_or a (bit_or b c) ≡ bit_or b (bit_or a c)
 or_swapped a b c = same_mask (swap a b c) (swap b a c)
@@ -152,7 +146,7 @@ with_first g c h (old k) = closed_united g c k
 
 with_later : (f g : ℕ) (c : List ℕ) (h : ℕ) → Listed f c → ((b : ℕ) → Listed b c → Listed (bit_or f b) c) → Kind g c h
     → Listed (bit_or f h) (add g (joins g c c))
-with_later f g c h l ih (itself e) = at (or_turned g f ∙ ap (bit_or f) (sym e)) (closed_united g c l)
+with_later f g c h l ih (itself e) = at (or_comm g f ∙ ap (bit_or f) (sym e)) (closed_united g c l)
 with_later f g c h l ih (united w) =
     at (sym (ap (bit_or f) (sym w.whole) ∙ or_swapped f g w.part)) (closed_united g c (ih w.part w.listed))
 with_later f g c h l ih (old k) = closed_old g c (ih h k)

@@ -3,7 +3,7 @@ use Rattle.std.proofs.lemmas.Result.{err_from_is_err_and}
 use Rattle.sheet.specs.Faults.{fault_at}
 use Rattle.roll.specs.Views.{slots}
 use Rattle.runner.proofs.Marking.{marked_start}
-use Rattle.runner.proofs.Mapped.{was_ok, was_err}
+use Rattle.domain.proofs.Mapped.{was_ok, was_err}
 use Rattle.runner.proofs.Runs.{runs_start, runs_again, runs_fault, runs_end}
 use Rattle.runner.proofs.run.run_steps.Goals as goal
 

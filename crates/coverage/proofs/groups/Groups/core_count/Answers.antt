@@ -1,7 +1,7 @@
 use Rattle.std.proofs.Common.{arith}
 use Rattle.coverage.proofs.Verdicts.{decided_no}
 use Rattle.coverage.proofs.Counting.{count_start, count_skip, count_one, count_end, count_as, core_range, shifted_end}
-use Rattle.coverage.proofs.ListedCores.{counted_few}
+use Rattle.domain.proofs.Refusing.{counted_few}
 use Rattle.coverage.proofs.groups.Groups.core_count.Goals as goal
 use Rattle.coverage.proofs.groups.Groups.core_count.Goals.{then-is_core, else-is_core}
 

@@ -1,6 +1,7 @@
 use Rattle.std.proofs.Common.{ℕ, ◌≤◌, length, refl, arith}
 use Rattle.coverage.proofs.Counting.{count_fits, fits_count, count_as}
-use Rattle.coverage.proofs.ListedCores.{fills_as, counted_few}
+use Rattle.coverage.proofs.ListedCores.{fills_as}
+use Rattle.domain.proofs.Refusing.{counted_few}
 use Rattle.coverage.specs.Counts.{CoreCount}
 use Rattle.coverage.proofs.groups.Groups.write_core.Goals as goal
 use Rattle.domain.specs.Tables.{told_of}
