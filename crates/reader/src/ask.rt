@@ -25,6 +25,7 @@ impl SheetRecord<'_> {
         }
     }
 
+    // two functions, since three letters take one position: an array of N would be taken apart at each
     fn one_position(&self) -> Result<u8, ReaderFault>
         ensures { result ≡ one_of self.now.sheet.now self.now.frame }
     {

@@ -22,6 +22,7 @@ fn copy(sheet: &[u8], start: usize, groups: &mut [u16])
     requires { start + 2 * length groups.old ≤ length sheet.now }
     ensures { groups.new ≡ groups_at sheet.now start (length groups.old) }
 {
+    // by places on the sheet: no value is known of a list behind an adapter of `iter_mut` but `enumerate`
     for (i, group) in groups.iter_mut().enumerate() {
         *group = pair(sheet, start + 2 * i);
     }

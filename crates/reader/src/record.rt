@@ -15,7 +15,9 @@ const POSITIONS: u8 = 12;
 #[derive(Clone, Copy)]
 pub(crate) struct Record {
     pub(crate) place: usize,
+    // the number as it stands on the sheet: a step and a term read it by tables of their own
     pub(crate) kind: u16,
+    // places, and no slice: definitions equate records, and an equation cannot say where a slice lies
     pub(crate) start: usize,
     pub(crate) end: usize,
 }

@@ -108,6 +108,7 @@ impl SheetRecord<'_> {
     {
         let mut all = empty();
         let mut at = self.frame.start + 2;
+        // no index: where the next record starts is known once one is read
         while at < self.frame.end {
             let inner = self.inner(at)?;
             all = join(all, inner.nested(depth)?);

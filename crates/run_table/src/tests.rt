@@ -29,238 +29,173 @@ fn prints(rt: &impl Abort, heap: Global, sheet: &[u8], text: &str, what: &str) -
     Ok(())
 }
 
-#[test]
-fn a_sheet_that_cannot_be_read(rt: HostRuntime) -> Result<(), Fail> {
-    let heap = rt.alloc();
-    // no bytes at all
-    prints(
-        &rt,
-        heap,
-        b"",
-        "refused 1 at 0 step 0 reader\n",
-        "no bytes at all",
-    )?;
-    // three bytes are no record
-    prints(
-        &rt,
-        heap,
-        b"\x01\x00\x01",
-        "refused 1 at 0 step 0 reader\n",
-        "three bytes are no record",
-    )?;
-    // no end comes
-    prints(
-        &rt,
-        heap,
-        b"\x01\x00\x01\x00\x02",
-        "0 open yes\nrefused 1 at 5 step 1 reader\n",
-        "no end comes",
-    )?;
-    // a term that runs past its bind
-    prints(
-        &rt,
-        heap,
-        b"\x01\x00\x01\x00\x02\x06\x00\x02\x00\x00\x02\x00\x11\x00\x01\x00\x00\x06\x00",
-        "0 open yes\nrefused 1 at 10 step 1 reader\n",
-        "a term that runs past its bind",
-    )?;
-    // a kind that is none
-    prints(
-        &rt,
-        heap,
-        b"\x04\x00\x07\x00\x00\x00\x00\x00",
-        "refused 2 at 0 step 0 reader\n",
-        "a kind that is none",
-    )?;
-    // a step where a term belongs
-    prints(
-        &rt,
-        heap,
-        b"\x01\x00\x01\x00\x02\x05\x00\x02\x00\x00\x00\x00\x06\x00\x00\x00\x06\x00",
-        "0 open yes\nrefused 2 at 10 step 1 reader\n",
-        "a step where a term belongs",
-    )?;
-    // an open of two bytes
-    prints(
-        &rt,
-        heap,
-        b"\x02\x00\x01\x00\x02\x02\x00\x00\x06\x00",
-        "refused 3 at 0 step 0 reader\n",
-        "an open of two bytes",
-    )?;
-    // bytes after the term
-    prints(
-        &rt,
-        heap,
-        b"\x01\x00\x01\x00\x02\x07\x00\x02\x00\x00\x01\x00\x11\x00\x01\x00\x00\x00\x06\x00",
-        "0 open yes\nrefused 3 at 5 step 1 reader\n",
-        "bytes after the term",
-    )
-}
-
-#[test]
-fn a_step_out_of_turn(rt: HostRuntime) -> Result<(), Fail> {
-    let heap = rt.alloc();
-    // a bind before the open
-    prints(
-        &rt,
-        heap,
-        b"\x06\x00\x02\x00\x00\x01\x00\x11\x00\x01",
-        "refused 4 at 0 step 0 runner\n",
-        "a bind before the open",
-    )?;
-    // a second open
-    prints(
-        &rt,
-        heap,
-        b"\x01\x00\x01\x00\x02\x01\x00\x01\x00\x02\x00\x00\x06\x00",
-        "0 open yes\nrefused 4 at 5 step 1 runner\n",
-        "a second open",
-    )?;
-    // a byte after the end
-    prints(
-        &rt,
-        heap,
-        b"\x01\x00\x01\x00\x02\x00\x00\x06\x00\x00",
-        "0 open yes\n5 end yes\nrefused 4 at 9 step 2 runner\n",
-        "a byte after the end",
-    )?;
+// What each sheet shows, its bytes, and what is printed of it.
+fn all_print(rt: &impl Abort, heap: Global, sheets: &[(&str, &[u8], &str)]) -> Result<(), Fail> {
+    for sheet in sheets {
+        prints(rt, heap, sheet.1, sheet.2, sheet.0)?;
+    }
     Ok(())
 }
 
 #[test]
+fn a_sheet_that_cannot_be_read(rt: HostRuntime) -> Result<(), Fail> {
+    let sheets: [(&str, &[u8], &str); 8] = [
+        ("no bytes at all", b"", "refused 1 at 0 step 0 reader\n"),
+        (
+            "three bytes are no record",
+            b"\x01\x00\x01",
+            "refused 1 at 0 step 0 reader\n",
+        ),
+        (
+            "no end comes",
+            b"\x01\x00\x01\x00\x02",
+            "0 open yes\nrefused 1 at 5 step 1 reader\n",
+        ),
+        (
+            "a term that runs past its bind",
+            b"\x01\x00\x01\x00\x02\x06\x00\x02\x00\x00\x02\x00\x11\x00\x01\x00\x00\x06\x00",
+            "0 open yes\nrefused 1 at 10 step 1 reader\n",
+        ),
+        (
+            "a kind that is none",
+            b"\x04\x00\x07\x00\x00\x00\x00\x00",
+            "refused 2 at 0 step 0 reader\n",
+        ),
+        (
+            "a step where a term belongs",
+            b"\x01\x00\x01\x00\x02\x05\x00\x02\x00\x00\x00\x00\x06\x00\x00\x00\x06\x00",
+            "0 open yes\nrefused 2 at 10 step 1 reader\n",
+        ),
+        (
+            "an open of two bytes",
+            b"\x02\x00\x01\x00\x02\x02\x00\x00\x06\x00",
+            "refused 3 at 0 step 0 reader\n",
+        ),
+        (
+            "bytes after the term",
+            b"\x01\x00\x01\x00\x02\x07\x00\x02\x00\x00\x01\x00\x11\x00\x01\x00\x00\x00\x06\x00",
+            "0 open yes\nrefused 3 at 5 step 1 reader\n",
+        ),
+    ];
+    all_print(&rt, rt.alloc(), &sheets)
+}
+
+#[test]
+fn a_step_out_of_turn(rt: HostRuntime) -> Result<(), Fail> {
+    let sheets: [(&str, &[u8], &str); 3] = [
+        (
+            "a bind before the open",
+            b"\x06\x00\x02\x00\x00\x01\x00\x11\x00\x01",
+            "refused 4 at 0 step 0 runner\n",
+        ),
+        (
+            "a second open",
+            b"\x01\x00\x01\x00\x02\x01\x00\x01\x00\x02\x00\x00\x06\x00",
+            "0 open yes\nrefused 4 at 5 step 1 runner\n",
+        ),
+        (
+            "a byte after the end",
+            b"\x01\x00\x01\x00\x02\x00\x00\x06\x00\x00",
+            "0 open yes\n5 end yes\nrefused 4 at 9 step 2 runner\n",
+        ),
+    ];
+    all_print(&rt, rt.alloc(), &sheets)
+}
+
+#[test]
 fn numbers_out_of_range(rt: HostRuntime) -> Result<(), Fail> {
-    let heap = rt.alloc();
-    // no positions
-    prints(
-        &rt,
-        heap,
-        b"\x01\x00\x01\x00\x00\x00\x00\x06\x00",
-        "refused 5 at 0 step 0 keeper\n",
-        "no positions",
-    )?;
-    // too many positions
-    prints(
-        &rt,
-        heap,
-        b"\x01\x00\x01\x00\x0d\x00\x00\x06\x00",
-        "refused 5 at 0 step 0 keeper\n",
-        "too many positions",
-    )?;
-    // a position that no sheet has
-    prints(
-        &rt,
-        heap,
-        b"\x01\x00\x01\x00\x02\x06\x00\x02\x00\x0c\x01\x00\x11\x00\x01\x00\x00\x06\x00",
-        "0 open yes\nrefused 6 at 5 step 1 reader\n",
-        "a position that no sheet has",
-    )?;
-    // a position that this record has not
-    prints(
-        &rt,
-        heap,
-        b"\x01\x00\x01\x00\x02\x06\x00\x02\x00\x00\x01\x00\x11\x00\x02\x00\x00\x06\x00",
-        "0 open yes\nrefused 6 at 5 step 1 keeper\n",
-        "a position that this record has not",
-    )?;
-    // a question of such a position
-    prints(
-        &rt,
-        heap,
-        b"\x01\x00\x01\x00\x02\x02\x00\x05\x00\x67\x02\x00\x00\x06\x00",
-        "0 open yes\nrefused 6 at 5 step 1 keeper\n",
-        "a question of such a position",
-    )?;
-    // a position bound to itself
-    prints(
-        &rt,
-        heap,
-        b"\x01\x00\x01\x00\x02\x06\x00\x02\x00\x00\x01\x00\x11\x00\x00\x00\x00\x06\x00",
-        "0 open yes\nrefused 7 at 5 step 1 keeper\n",
-        "a position bound to itself",
-    )
+    let sheets: [(&str, &[u8], &str); 6] = [
+        (
+            "no positions",
+            b"\x01\x00\x01\x00\x00\x00\x00\x06\x00",
+            "refused 5 at 0 step 0 keeper\n",
+        ),
+        (
+            "too many positions",
+            b"\x01\x00\x01\x00\x0d\x00\x00\x06\x00",
+            "refused 5 at 0 step 0 keeper\n",
+        ),
+        (
+            "a position that no sheet has",
+            b"\x01\x00\x01\x00\x02\x06\x00\x02\x00\x0c\x01\x00\x11\x00\x01\x00\x00\x06\x00",
+            "0 open yes\nrefused 6 at 5 step 1 reader\n",
+        ),
+        (
+            "a position that this record has not",
+            b"\x01\x00\x01\x00\x02\x06\x00\x02\x00\x00\x01\x00\x11\x00\x02\x00\x00\x06\x00",
+            "0 open yes\nrefused 6 at 5 step 1 keeper\n",
+        ),
+        (
+            "a question of such a position",
+            b"\x01\x00\x01\x00\x02\x02\x00\x05\x00\x67\x02\x00\x00\x06\x00",
+            "0 open yes\nrefused 6 at 5 step 1 keeper\n",
+        ),
+        (
+            "a position bound to itself",
+            b"\x01\x00\x01\x00\x02\x06\x00\x02\x00\x00\x01\x00\x11\x00\x00\x00\x00\x06\x00",
+            "0 open yes\nrefused 7 at 5 step 1 keeper\n",
+        ),
+    ];
+    all_print(&rt, rt.alloc(), &sheets)
 }
 
 #[test]
 fn depths_and_letters(rt: HostRuntime) -> Result<(), Fail> {
-    let heap = rt.alloc();
-    // sixteen deep
-    prints(
-        &rt,
-        heap,
-        b"\x01\x00\x01\x00\x02\x67\x00\x02\x00\x00\x62\x00\x13\x00\x00\x00\x5c\x00\x13\x00\x00\x00\x56\x00\x13\x00\x00\x00\x50\x00\x13\x00\x00\x00\x4a\x00\x13\x00\x00\x00\x44\x00\x13\x00\x00\x00\x3e\x00\x13\x00\x00\x00\x38\x00\x13\x00\x00\x00\x32\x00\x13\x00\x00\x00\x2c\x00\x13\x00\x00\x00\x26\x00\x13\x00\x00\x00\x20\x00\x13\x00\x00\x00\x1a\x00\x13\x00\x00\x00\x14\x00\x13\x00\x00\x00\x0e\x00\x13\x00\x00\x00\x08\x00\x13\x00\x00\x00\x02\x00\x12\x00\x00\x00\x00\x00\x06\x00",
-        "0 open yes\n5 bind yes\n112 end yes\n",
-        "sixteen deep",
-    )?;
-    // seventeen deep
-    prints(
-        &rt,
-        heap,
-        b"\x01\x00\x01\x00\x02\x6d\x00\x02\x00\x00\x68\x00\x13\x00\x00\x00\x62\x00\x13\x00\x00\x00\x5c\x00\x13\x00\x00\x00\x56\x00\x13\x00\x00\x00\x50\x00\x13\x00\x00\x00\x4a\x00\x13\x00\x00\x00\x44\x00\x13\x00\x00\x00\x3e\x00\x13\x00\x00\x00\x38\x00\x13\x00\x00\x00\x32\x00\x13\x00\x00\x00\x2c\x00\x13\x00\x00\x00\x26\x00\x13\x00\x00\x00\x20\x00\x13\x00\x00\x00\x1a\x00\x13\x00\x00\x00\x14\x00\x13\x00\x00\x00\x0e\x00\x13\x00\x00\x00\x08\x00\x13\x00\x00\x00\x02\x00\x12\x00\x00\x00\x00\x00\x06\x00",
-        "0 open yes\nrefused 8 at 106 step 1 reader\n",
-        "seventeen deep",
-    )?;
-    // an unknown letter
-    prints(
-        &rt,
-        heap,
-        b"\x01\x00\x01\x00\x02\x02\x00\x05\x00\x78\x00\x00\x00\x06\x00",
-        "0 open yes\nrefused 11 at 5 step 1 reader\n",
-        "an unknown letter",
-    )?;
-    // a letter that wants two positions
-    prints(
-        &rt,
-        heap,
-        b"\x01\x00\x01\x00\x02\x02\x00\x05\x00\x70\x00\x00\x00\x06\x00",
-        "0 open yes\nrefused 3 at 5 step 1 reader\n",
-        "a letter that wants two positions",
-    )?;
-    // a letter that wants one
-    prints(
-        &rt,
-        heap,
-        b"\x01\x00\x01\x00\x02\x03\x00\x05\x00\x67\x00\x01\x00\x00\x06\x00",
-        "0 open yes\nrefused 3 at 5 step 1 reader\n",
-        "a letter that wants one",
-    )
+    let sheets: [(&str, &[u8], &str); 5] = [
+        (
+            "sixteen deep",
+            b"\x01\x00\x01\x00\x02\x67\x00\x02\x00\x00\x62\x00\x13\x00\x00\x00\x5c\x00\x13\x00\x00\x00\x56\x00\x13\x00\x00\x00\x50\x00\x13\x00\x00\x00\x4a\x00\x13\x00\x00\x00\x44\x00\x13\x00\x00\x00\x3e\x00\x13\x00\x00\x00\x38\x00\x13\x00\x00\x00\x32\x00\x13\x00\x00\x00\x2c\x00\x13\x00\x00\x00\x26\x00\x13\x00\x00\x00\x20\x00\x13\x00\x00\x00\x1a\x00\x13\x00\x00\x00\x14\x00\x13\x00\x00\x00\x0e\x00\x13\x00\x00\x00\x08\x00\x13\x00\x00\x00\x02\x00\x12\x00\x00\x00\x00\x00\x06\x00",
+            "0 open yes\n5 bind yes\n112 end yes\n",
+        ),
+        (
+            "seventeen deep",
+            b"\x01\x00\x01\x00\x02\x6d\x00\x02\x00\x00\x68\x00\x13\x00\x00\x00\x62\x00\x13\x00\x00\x00\x5c\x00\x13\x00\x00\x00\x56\x00\x13\x00\x00\x00\x50\x00\x13\x00\x00\x00\x4a\x00\x13\x00\x00\x00\x44\x00\x13\x00\x00\x00\x3e\x00\x13\x00\x00\x00\x38\x00\x13\x00\x00\x00\x32\x00\x13\x00\x00\x00\x2c\x00\x13\x00\x00\x00\x26\x00\x13\x00\x00\x00\x20\x00\x13\x00\x00\x00\x1a\x00\x13\x00\x00\x00\x14\x00\x13\x00\x00\x00\x0e\x00\x13\x00\x00\x00\x08\x00\x13\x00\x00\x00\x02\x00\x12\x00\x00\x00\x00\x00\x06\x00",
+            "0 open yes\nrefused 8 at 106 step 1 reader\n",
+        ),
+        (
+            "an unknown letter",
+            b"\x01\x00\x01\x00\x02\x02\x00\x05\x00\x78\x00\x00\x00\x06\x00",
+            "0 open yes\nrefused 11 at 5 step 1 reader\n",
+        ),
+        (
+            "a letter that wants two positions",
+            b"\x01\x00\x01\x00\x02\x02\x00\x05\x00\x70\x00\x00\x00\x06\x00",
+            "0 open yes\nrefused 3 at 5 step 1 reader\n",
+        ),
+        (
+            "a letter that wants one",
+            b"\x01\x00\x01\x00\x02\x03\x00\x05\x00\x67\x00\x01\x00\x00\x06\x00",
+            "0 open yes\nrefused 3 at 5 step 1 reader\n",
+        ),
+    ];
+    all_print(&rt, rt.alloc(), &sheets)
 }
 
 #[test]
 fn worked_binds(rt: HostRuntime) -> Result<(), Fail> {
-    let heap = rt.alloc();
-    // 0 bound to f(1, 2): groups 3 and 5, free 6, linear 7
-    prints(
-        &rt,
-        heap,
-        b"\x01\x00\x01\x00\x03\x11\x00\x02\x00\x00\x0c\x00\x13\x00\x00\x00\x01\x00\x11\x00\x01\x01\x00\x11\x00\x02\x03\x00\x05\x00\x70\x00\x01\x03\x00\x05\x00\x70\x00\x02\x03\x00\x05\x00\x70\x01\x02\x02\x00\x05\x00\x66\x00\x02\x00\x05\x00\x66\x01\x02\x00\x05\x00\x6c\x00\x00\x00\x06\x00",
-        "0 open yes\n5 bind yes\n26 ask yes\n33 ask yes\n40 ask no\n47 ask no\n53 ask yes\n59 ask yes\n65 end yes\n",
-        "0 bound to f(1, 2): groups 3 and 5, free 6, linear 7",
-    )?;
-    // 0 bound to f(1, 1): group 3, free 2, linear 2
-    prints(
-        &rt,
-        heap,
-        b"\x01\x00\x01\x00\x02\x11\x00\x02\x00\x00\x0c\x00\x13\x00\x00\x00\x01\x00\x11\x00\x01\x01\x00\x11\x00\x01\x03\x00\x05\x00\x70\x00\x01\x02\x00\x05\x00\x66\x00\x02\x00\x05\x00\x66\x01\x02\x00\x05\x00\x6c\x00\x02\x00\x05\x00\x6c\x01\x00\x00\x06\x00",
-        "0 open yes\n5 bind yes\n26 ask yes\n33 ask no\n39 ask yes\n45 ask no\n51 ask yes\n57 end yes\n",
-        "0 bound to f(1, 1): group 3, free 2, linear 2",
-    )?;
-    // and then to a constant: both ground, so both linear again
-    prints(
-        &rt,
-        heap,
-        b"\x01\x00\x01\x00\x02\x11\x00\x02\x00\x00\x0c\x00\x13\x00\x00\x00\x01\x00\x11\x00\x01\x01\x00\x11\x00\x01\x07\x00\x02\x00\x00\x02\x00\x12\x00\x00\x00\x02\x00\x05\x00\x67\x00\x02\x00\x05\x00\x67\x01\x02\x00\x05\x00\x6c\x00\x02\x00\x05\x00\x6c\x01\x00\x00\x06\x00",
-        "0 open yes\n5 bind yes\n26 bind yes\n37 ask yes\n43 ask yes\n49 ask yes\n55 ask yes\n61 end yes\n",
-        "and then to a constant: both ground, so both linear again",
-    )?;
-    // after 0 is bound to 1 the term f(0, 1) is not linear
-    prints(
-        &rt,
-        heap,
-        b"\x01\x00\x01\x00\x03\x06\x00\x02\x00\x00\x01\x00\x11\x00\x01\x11\x00\x02\x00\x02\x0c\x00\x13\x00\x00\x00\x01\x00\x11\x00\x00\x01\x00\x11\x00\x01\x02\x00\x05\x00\x6c\x02\x02\x00\x05\x00\x66\x00\x00\x00\x06\x00",
-        "0 open yes\n5 bind yes\n15 bind yes\n36 ask no\n42 ask yes\n48 end yes\n",
-        "after 0 is bound to 1 the term f(0, 1) is not linear",
-    )
+    let sheets: [(&str, &[u8], &str); 4] = [
+        (
+            "0 bound to f(1, 2): groups 3 and 5, free 6, linear 7",
+            b"\x01\x00\x01\x00\x03\x11\x00\x02\x00\x00\x0c\x00\x13\x00\x00\x00\x01\x00\x11\x00\x01\x01\x00\x11\x00\x02\x03\x00\x05\x00\x70\x00\x01\x03\x00\x05\x00\x70\x00\x02\x03\x00\x05\x00\x70\x01\x02\x02\x00\x05\x00\x66\x00\x02\x00\x05\x00\x66\x01\x02\x00\x05\x00\x6c\x00\x00\x00\x06\x00",
+            "0 open yes\n5 bind yes\n26 ask yes\n33 ask yes\n40 ask no\n47 ask no\n53 ask yes\n59 ask yes\n65 end yes\n",
+        ),
+        (
+            "0 bound to f(1, 1): group 3, free 2, linear 2",
+            b"\x01\x00\x01\x00\x02\x11\x00\x02\x00\x00\x0c\x00\x13\x00\x00\x00\x01\x00\x11\x00\x01\x01\x00\x11\x00\x01\x03\x00\x05\x00\x70\x00\x01\x02\x00\x05\x00\x66\x00\x02\x00\x05\x00\x66\x01\x02\x00\x05\x00\x6c\x00\x02\x00\x05\x00\x6c\x01\x00\x00\x06\x00",
+            "0 open yes\n5 bind yes\n26 ask yes\n33 ask no\n39 ask yes\n45 ask no\n51 ask yes\n57 end yes\n",
+        ),
+        (
+            "and then to a constant: both ground, so both linear again",
+            b"\x01\x00\x01\x00\x02\x11\x00\x02\x00\x00\x0c\x00\x13\x00\x00\x00\x01\x00\x11\x00\x01\x01\x00\x11\x00\x01\x07\x00\x02\x00\x00\x02\x00\x12\x00\x00\x00\x02\x00\x05\x00\x67\x00\x02\x00\x05\x00\x67\x01\x02\x00\x05\x00\x6c\x00\x02\x00\x05\x00\x6c\x01\x00\x00\x06\x00",
+            "0 open yes\n5 bind yes\n26 bind yes\n37 ask yes\n43 ask yes\n49 ask yes\n55 ask yes\n61 end yes\n",
+        ),
+        (
+            "after 0 is bound to 1 the term f(0, 1) is not linear",
+            b"\x01\x00\x01\x00\x03\x06\x00\x02\x00\x00\x01\x00\x11\x00\x01\x11\x00\x02\x00\x02\x0c\x00\x13\x00\x00\x00\x01\x00\x11\x00\x00\x01\x00\x11\x00\x01\x02\x00\x05\x00\x6c\x02\x02\x00\x05\x00\x66\x00\x00\x00\x06\x00",
+            "0 open yes\n5 bind yes\n15 bind yes\n36 ask no\n42 ask yes\n48 end yes\n",
+        ),
+    ];
+    all_print(&rt, rt.alloc(), &sheets)
 }
 
 // A work list that is too short is refused by the one who needs it.
@@ -269,15 +204,14 @@ fn short_work_lists(rt: HostRuntime) -> Result<(), Fail> {
     let sheet = b"\x01\x00\x01\x00\x02\x00\x00\x06\x00";
     let mut marks = [StepMark::blank(); 1];
     let mut scratch = [0u8; 512];
-    let fault = match run(
+    let Err(fault) = run(
         &mut TableKeeper::new(),
         sheet,
         &mut marks,
         &mut [],
         &mut scratch,
-    ) {
-        Err(fault) => fault,
-        Ok(_) => return Err(Fail::new("there is room for one mark only")),
+    ) else {
+        return Err(Fail::new("there is room for one mark only"));
     };
     assert!(rt;
         fault.number() == 13
@@ -285,15 +219,14 @@ fn short_work_lists(rt: HostRuntime) -> Result<(), Fail> {
             && fault.step == 1
             && fault.place == 5
     );
-    let fault = match run(
+    let Err(fault) = run(
         &mut TableKeeper::new(),
         sheet,
         &mut marks,
         &mut [],
         &mut scratch[0..511],
-    ) {
-        Err(fault) => fault,
-        Ok(_) => return Err(Fail::new("scratch is one byte short")),
+    ) else {
+        return Err(Fail::new("scratch is one byte short"));
     };
     assert!(rt;
         fault.number() == 13
@@ -319,15 +252,14 @@ fn mark(place: u16, kind: StepKind, answer: bool) -> StepMark {
 fn a_mark_for_each_step(rt: HostRuntime) -> Result<(), Fail> {
     let mut marks = [StepMark::blank(); 3];
     let mut scratch = [0u8; 512];
-    let steps = match run(
+    let Ok(steps) = run(
         &mut TableKeeper::new(),
         &THREE_STEPS,
         &mut marks,
         &mut [],
         &mut scratch,
-    ) {
-        Ok(steps) => steps,
-        Err(_) => return Err(Fail::new("there is room for every mark")),
+    ) else {
+        return Err(Fail::new("there is room for every mark"));
     };
     assert_eq!(rt; steps, 3);
     assert!(rt;
@@ -346,15 +278,14 @@ fn a_mark_for_each_step(rt: HostRuntime) -> Result<(), Fail> {
 fn one_mark_too_few(rt: HostRuntime) -> Result<(), Fail> {
     let mut marks = [StepMark::blank(); 3];
     let mut scratch = [0u8; 512];
-    let fault = match run(
+    let Err(fault) = run(
         &mut TableKeeper::new(),
         &THREE_STEPS,
         &mut marks[0..2],
         &mut [],
         &mut scratch,
-    ) {
-        Err(fault) => fault,
-        Ok(_) => return Err(Fail::new("there is room for two marks only")),
+    ) else {
+        return Err(Fail::new("there is room for two marks only"));
     };
     assert!(rt; fault.number() == 13 && fault.layer() == Layer::Runner && fault.step == 2);
     assert!(rt;
@@ -421,8 +352,5 @@ fn calls_that_are_refused(rt: HostRuntime) -> Result<(), Fail> {
 }
 
 fn is_refused(done: Result<(), KeeperFault>, refusal: Refusal) -> bool {
-    match done {
-        Ok(()) => false,
-        Err(fault) => fault.refusal == refusal,
-    }
+    done == Err(refusal.into())
 }

@@ -1,6 +1,9 @@
--- A mark as text, byte by byte.
+-- A mark and a fault as text, byte by byte.
 use Rattle.std.specs.Prelude.{ℕ, Bool, true, false, List, ◌++◌, codes, decimal}
+use Rattle.domain.specs.Refusals.{layer_name}
+use Rattle.sheet.specs.Faults.{number_in, layer_in}
 use Rattle.sheet.specs.Kinds.{step_name}
+use Rattle.sheet.specs.declared.fault.SheetFault.{SheetFault}
 use Rattle.sheet.specs.declared.mark.StepMark.{StepMark}
 
 abbrev pub answer_name : Bool → List ℕ
@@ -10,3 +13,11 @@ answer_name false = codes "no"
 -- place, kind and answer
 abbrev pub mark_text : StepMark → List ℕ
 mark_text m = decimal m.place ++ (codes " " ++ (step_name m.kind ++ (codes " " ++ answer_name m.answer)))
+
+-- number, place, step and layer
+abbrev pub fault_text : SheetFault → List ℕ
+fault_text f =
+    codes "refused " ++ (decimal (number_in f.cause)
+    ++ (codes " at " ++ (decimal f.place
+    ++ (codes " step " ++ (decimal f.step
+    ++ (codes " " ++ layer_name (layer_in f.cause)))))))

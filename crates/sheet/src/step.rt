@@ -73,7 +73,8 @@ pub enum Step {
         position: u8,
         term: Term,
     },
-    // the two masks, and where on the sheet the groups start and how many there are
+    // the two masks, and where on the sheet the groups start and how many there are: places, and no slice,
+    // since definitions equate steps, and an equation cannot say where a slice lies
     Join {
         free: u16,
         linear: u16,

@@ -8,7 +8,6 @@ pub mod line;
 #[cfg(test)]
 mod tests;
 
-use crate::line::refusal_line;
 use sheet::fault::SheetFault;
 use sheet::mark::StepMark;
 use std::alloc::{AllocError, Global};
@@ -25,8 +24,7 @@ pub fn transcript(
         Ok(steps) => mark_lines(heap, marks, steps),
         Err(fault) => {
             let mut text = mark_lines(heap, marks, fault.step)?;
-            let last = refusal_line(heap, fault.number(), fault.place, fault.step, fault.layer())?;
-            text.push_str(&last)?;
+            writeln!(text, "{fault}")?;
             Ok(text)
         }
     }

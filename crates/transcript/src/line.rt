@@ -1,3 +1,4 @@
+// Lines one by one, for callers that print while they run.
 ghost use Rattle.std.specs.Prelude.{◌≡◌, IfOk, string_bytes};
 ghost use Rattle.transcript.specs.Lines.{mark_line, refusal_line};
 
