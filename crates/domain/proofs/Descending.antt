@@ -1,8 +1,14 @@
 -- The list of the subsets of a mask: its first entry, and what stands in it.
-use Rattle.std.proofs.Common.{◌≡◌, ℕ, zero, suc, ◌-◌, ◌<◌, ◌≤◌, Bool, true, false, cond, ◌⊎◌, List, [], ◌∷◌, length, get_or, filter, sym, refl, ap, ◌∙◌, subst, Decides, inl, inr, arith}
+use Rattle.std.proofs.Common.{◌≡◌, ℕ, zero, suc, ◌-◌, ◌<◌, ◌≤◌, Bool, true, false, cond, ◌⊎◌, List, [], ◌∷◌, length, get_or, filter, Option, sym, refl, ap, ◌∙◌, subst, Decides, inl, inr, arith}
 use lib.Bits.{bit_and}
 use Rattle.std.specs.Bool.{MatchBool}
-use Rattle.std.specs.List.{AllWithin, HoldsAt}
+use denote.Param.Members.{Mut}
+use Rattle.std.specs.Fn.{Called}
+use Rattle.std.specs.Iterator.{YieldsFirst, YieldsThen}
+use Rattle.std.specs.List.{AllWithin, FoldsTo, HoldsAt}
+use Rattle.std.specs.Option.{MatchOption}
+use Rattle.std.proofs.lemmas.Iterator.{cases_from_any}
+use Rattle.std.proofs.lemmas.Iterator.Consumers.{YieldsList-from_first}
 use Rattle.std.proofs.lemmas.Bool.{cases_eq, cases_Bool, eq-eqb, eqb-true, false≢true}
 use Rattle.domain.specs.Coverage.{Listed}
 use Rattle.domain.specs.Coverage.Listed.{here, there}
@@ -107,6 +113,18 @@ decides_some {Q} u r m =
     go : (r : Bool) → (r ≡ false → (g : ℕ) → Listed g (subsets_from u u) → Q g → ⊥) → SomeSubset Q u → r ≡ true
     go true none f = refl
     go false none f = absurd (none refl f.part (subset_listed u u f.some (within_le f.inside) f.inside) f.holds)
+
+-- what `any` answers over the subsets of u, by a test that decides Q
+pub any_decides :
+    {F : Type 0} {g : Mut F (ℕ × Unit {0}) Bool} {Q : ℕ → Type 0} (u : ℕ) {s left : List ℕ} {f : F} {r : Bool}
+    → (xs : List ℕ) × (o : Option ℕ) × (j : F) × YieldsThen (YieldsFirst (λ l. l)) s xs o left × FoldsTo (λ p x q. Called g p (x, tt) false q) f xs j × MatchOption o (r ≡ false) (λ x. (r ≡ true) × ((h : F) × Called g j (x, tt) true h))
+    → s ≡ subsets_from u u
+    → ((x : ℕ) (q : F) → Called g f (x, tt) true q → Q x)
+    → ((x : ℕ) (q : F) → Called g f (x, tt) false q → (q ≡ f) × (Q x → ⊥))
+    → Decides r (SomeSubset Q u)
+any_decides {Q = Q} u ran of found not_found =
+    decides_some u _
+    (cases_from_any _ _ _ Q (λ x. Q x → ⊥) ran (YieldsList-from_first (λ x. x) (λ l. l) (subsets_from u u) of) found not_found)
 
 -- what stands in a list and passes a test
 pub listed_filter : {g : ℕ} (p : ℕ → Bool) (xs : List ℕ) → Listed g (filter p xs) → Listed g xs × (p g ≡ true)

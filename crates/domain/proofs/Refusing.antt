@@ -2,6 +2,7 @@
 use Rattle.std.proofs.Common.{◌≡◌, ℕ, ◌^◌, ◌<◌, ◌≤◌, Bool, true, false, not, ◌&&◌, ◌||◌, eqb, ltb, ◌⊎◌, Some, None, Ok, Option, sym, refl, inl, inr, arith}
 use lib.Count.{ones}
 use Rattle.std.proofs.lemmas.Bool.{or_parts, and_cases, and_parts, leb-false, ltb-false, eqb-true, not-false, both_ways}
+use Rattle.std.proofs.lemmas.Option.{none-some}
 use Rattle.domain.specs.Refusals.{pick, first_of}
 use Rattle.domain.specs.Requests.{open_tests, bind_tests, ill_term, Gives}
 use Rattle.domain.specs.declared.refusal.Refusal.{Refusal}
@@ -10,13 +11,13 @@ use Rattle.domain.specs.declared.term.Term.{Term}
 
 -- a test that did not refuse, and those after it
 pub passed : (b : Bool) (e : Refusal) (later : Option Refusal) → None ≡ pick b e later → (b ≡ false) × (None ≡ later)
-passed true e later h = absurd (let z : ◌≡◌ {A = ℕ} 0 1 = cc in omega arith)
+passed true e later h = absurd (none-some e h)
 passed false e later h = (refl, h)
 
 -- a value that was given: no test refused, and what is said of values holds of it
 pub gave : {A : Type 0} (o : Option Refusal) (x : A) (P : A → Type 0) → Gives o (Ok x) P → (o ≡ None) × P x
 gave None x P h = (refl, h)
-gave (Some e) x P h = absurd (let q = h in let z : ◌≡◌ {A = ℕ} 0 1 = cc in omega arith)
+gave (Some e) x P h = absurd (let q = h in cc)
 
 -- the number of positions is not refused where a value was given
 pub counted_few : {A : Type 0} (n : ℕ) (k : A) (P : A → Type 0) → Gives (first_of (open_tests n)) (Ok k) P → (first_of (open_tests n) ≡ None) × (n < 13) × P k

@@ -5,11 +5,14 @@ ghost use Rattle.domain.specs.Requests.{open_tests, ask_tests, Gives};
 
 use crate::refusal::Refusal;
 
-// Refuses none and more than 12.
+// No description has more positions.
+pub const MOST_POSITIONS: u8 = 12;
+
+// Refuses none, and more than a description can have.
 pub fn check_count(positions: u8) -> Result<(), Refusal>
     ensures { Gives (first_of (open_tests positions)) result (λ u. (0 < positions) × (positions < 13)) }
 {
-    if positions == 0 || positions > 12 {
+    if positions == 0 || positions > MOST_POSITIONS {
         return Err(Refusal::Count);
     }
     Ok(())

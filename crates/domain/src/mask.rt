@@ -25,6 +25,14 @@ pub fn has(mask: u16, p: u8) -> bool
     (mask >> p) & 1 == 1
 }
 
+// Whether it holds both positions, which may be one. Two positions go side by side wherever a pair is asked: no
+// fact ties them, and a pair of them would be made at each call to be taken apart in the next.
+pub fn has_both(mask: u16, p: u8, q: u8) -> bool
+    ensures { Decides result (In p mask × In q mask) }
+{
+    has(mask, p) && has(mask, q)
+}
+
 pub fn meets(a: u16, b: u16) -> bool
     ensures { Decides result (Meets a b) }
 {

@@ -10,7 +10,7 @@ use std::marker::Model;
 #[derive(Drop)]
 pub struct Subsets {
     mask: u16,
-    // the next one; 0 at the end
+    // the next one; 0, which is none of those that are walked, at the end
     next: u16,
 }
 

@@ -1,16 +1,32 @@
 // The bit table of groups: the mask g is bit g % 8 of byte g / 8.
 ghost use Rattle.std.specs.Prelude.{◌≡◌, ℕ, ◌/◌, ◌%◌, ◌^◌, ◌<◌, ◌≤◌, ◌≢◌, length, ◌==◌};
+ghost use Rattle.domain.specs.Refusals.{first_of};
+ghost use Rattle.domain.specs.Requests.{room_tests, Gives};
 ghost use Rattle.domain.specs.Tables.{holds_bit, in_range, told_of};
+
+use crate::refusal::Refusal;
+
+// The bytes that have a bit for every mask of 12 positions.
+pub const BYTES: usize = 512;
+
+// Refuses fewer bytes than the masks of 12 positions need.
+pub fn check_room(bytes: usize) -> Result<(), Refusal>
+    ensures { Gives (first_of (room_tests bytes)) result (λ u. 512 ≤ bytes) }
+{
+    if bytes < BYTES {
+        return Err(Refusal::Room);
+    }
+    Ok(())
+}
 
 // The bit of the mask g; false where the table ends before it.
 pub fn holds(table: &[u8], g: u16) -> bool
     ensures { result ≡ holds_bit table.now g }
 {
-    let place = usize::from(g / 8);
-    if place >= table.len() {
-        return false;
+    match table.get(usize::from(g / 8)) {
+        Some(byte) => (byte >> (g % 8)) & 1 == 1,
+        None => false,
     }
-    (table[place] >> (g % 8)) & 1 == 1
 }
 
 // Whether g is one of the masks that a description of so many positions can have as a group.
@@ -40,6 +56,7 @@ pub fn put(table: &mut [u8], g: u16, on: bool)
     ensures past { length table.old ≤ g / 8 → table.new ≡ table.old }
 {
     let place = usize::from(g / 8);
+    // not `get_mut`: what the table is once the byte that it lends is written is not known where this returns
     if place < table.len() {
         // the cast narrows; it is proved to fit
         table[place] = with_bit(table[place], (g % 8) as u8, on);

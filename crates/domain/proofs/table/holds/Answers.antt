@@ -1,16 +1,13 @@
 -- The byte is shifted and its lowest digit compared, as the definition has it.
-use Rattle.std.proofs.Common.{◌≡◌, ◌/◌, sym, rules}
+use Rattle.std.proofs.Common.{sym, arith}
 use Rattle.domain.specs.Tables.{holds_bit}
 use Rattle.domain.proofs.Tables.{past_bit, low_digit}
 use Rattle.domain.proofs.table.holds.Goals as goal
 
-pub returns-then-place-table : goal.returns-then-place-table
-returns-then-place-table c =
-    let place : c.from-place.result ≡ c.args.g / 8 = search rules in
-    sym (past_bit _ _ (rw place at c.if-place-table.true))
-
-pub returns : goal.returns
+pub returns-in-Some : goal.returns-in-Some
 unfolding holds_bit
-returns c =
-    let place : c.from-place.result ≡ c.args.g / 8 = search rules in
-    rw place (low_digit _)
+returns-in-Some c = rw (c.in-Some.ensures.lookup.3.1 0, c.from.ensures) (low_digit _)
+
+pub returns-in-None : goal.returns-in-None
+returns-in-None c =
+    sym (past_bit _ _ (omega (arith, c.from.ensures, c.in-None.ensures.lookup.3)))
