@@ -166,11 +166,11 @@ module _ {X K : Type 0} (key : X → K) (rank : K → ℕ) (x : X) (used : ℕ) 
 
   -- with the key k and its rank r as the code has read them, and the part of the slice up to u
   pub added_there :
-      (u r : ℕ) (k : K) → u ≡ used → k ≡ key x → r ≡ rank k → (Holds key k (take u xs) → false ≡ true) → used < length xs →
-      p ≡ place (λ e. rank (key e)) r (take u xs) → ys ≡ paste xs (p + 1) (drop p xs) (used - p) →
+      (r : ℕ) (k : K) → k ≡ key x → r ≡ rank k → (Holds key k (take used xs) → false ≡ true) → used < length xs →
+      p ≡ place (λ e. rank (key e)) r (take used xs) → ys ≡ paste xs (p + 1) (drop p xs) (used - p) →
       Joins key rank x used xs (set ys p x)
-  added_there u r k same_part same_key same_rank not_held room first moved =
-      stands (λ h. false≢true (not_held (rw (same_part, same_key) h))) room (first ∙ rw (same_part, same_rank, same_key)) moved
+  added_there r k same_key same_rank not_held room first moved =
+      stands (λ h. false≢true (not_held (rw same_key h))) room (first ∙ rw (same_rank, same_key)) moved
 
 -- an entry that was added leaves the list in order, and no entry is lost
 module _ {X K : Type 0} (key : X → K) (rank : K → ℕ) (x : X) (used : ℕ) (xs ys : List X) (a : Joins key rank x used xs ys) where

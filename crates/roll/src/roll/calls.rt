@@ -3,7 +3,7 @@ ghost use Rattle.std.specs.Prelude.{◌≡◌, length, Decides};
 ghost use Rattle.roll.specs.Rolls.{Adds, Appends, Counts, Holds, InOrder, Member, used_after};
 ghost use Rattle.roll.specs.Views.{in_use, slots};
 
-use crate::insertion::insert;
+use crate::insertion::place_of;
 use crate::key::{Keyed, Ranked};
 use crate::not_added::NotAdded;
 use crate::roll::Roll;
@@ -46,14 +46,14 @@ impl<T: Keyed> Roll<'_, T> {
     pub fn holds(&self, key: &T::Key) -> bool
         ensures { Decides result (Holds T.Keyed.key key.now (in_use self.now)) }
     {
-        holds_key(&self.entries[0..self.used], key)
+        holds_key(self.in_use(), key)
     }
 
     // How many entries in use have the key?
     pub fn count(&self, key: &T::Key) -> usize
         ensures { Counts T.Keyed.key key.now (in_use self.now) result }
     {
-        count_key(&self.entries[0..self.used], key)
+        count_key(self.in_use(), key)
     }
 }
 
@@ -71,8 +71,17 @@ where
         ensures appended { Appends T.Keyed.key T.Key.Ranked.rank entry self.old.used (slots self.old) (slots self.new) result }
         ensures lent { self.new.entries.ghost_name ≡ self.old.entries.ghost_name }
     {
+        let key = entry.key();
+        if self.holds(&key) {
+            return Err(NotAdded::Held);
+        }
+        if self.used == self.entries.len() {
+            return Err(NotAdded::Full);
+        }
+        let place = place_of(self.in_use(), key.rank());
         let Roll { entries, used } = self;
-        insert(entries, *used, entry)?;
+        entries.copy_within(place..*used, place + 1);
+        entries[place] = entry;
         *used += 1;
         Ok(())
     }

@@ -25,6 +25,3 @@ loop-entry-preserved g c =
             c.loop-entry.invariant.1),
       )
     ]
-
-pub returns : goal.returns
-returns g c = counts_all _ _ c.args.entries.now c.loop-entry.entry-index _ c.loop-entry-test.false c.loop-entry.invariant.1
