@@ -84,14 +84,6 @@ module _ (G : ℕ → Type 0) (x v u : ℕ) where
       Decides-like r (λ p. pair_like (closed_like (touching_x G x v)) (closed_like (touching_t G x v)) p)
       (λ m. pair_like (closed_like (x_touching G x v)) (closed_like (t_touching G x v)) m) d
 
-  -- what is made, and the rest
-  pub decides_new : (c : Case) (r : Bool) → In x u → Meets u v → Decides r (Made G x v c u) → Decides r (NewGroup G x v c u)
-  decides_new c r i m d = Decides-like r made (λ n. go n) d
-    where
-      go : NewGroup G x v c u → Made G x v c u
-      go (rest k) = absurd (k.without i)
-      go (made k) = k
-
   pub decides_rest : (c : Case) (r : Bool) → (In x u → ⊥) → (Meets u v → ⊥) → Decides r (G u) → Decides r (NewGroup G x v c u)
   decides_rest c r out apart d =
       Decides-like r (λ g. rest (record { group = g; without = out; apart = apart })) (λ n. go n) d

@@ -1,4 +1,5 @@
-// A lent table that a rule is worked on in place, with room for the masks of 12 positions.
+// A lent table that a rule is worked on in place, with room for the masks of 12 positions. Each method that writes
+// says that the table is still the one lent: a fact of its start and end, which no type holds.
 ghost use Rattle.std.specs.Prelude.{◌≡◌, ◌<◌, ◌≤◌, length};
 
 use crate::groups::Groups;

@@ -1,4 +1,5 @@
-// The groups of a lent table. Which positions are free and which are linear is not asked here.
+// The groups of a lent table. Which positions are free and which are linear is not asked here. Those of `coverage`
+// are of any number of positions, which its calls refuse; here a type says that there are few.
 ghost use Rattle.std.specs.Prelude.{◌<◌};
 
 #[derive(Clone, Copy)]

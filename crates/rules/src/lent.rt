@@ -1,5 +1,6 @@
 // The rules on a lent table of at least 512 bytes, beside which the caller keeps the marks. The new table
-// takes the place of the old one; a refusal leaves it as it was.
+// takes the place of the old one; a refusal leaves it as it was, which each call says, since a contract is read
+// alone. Table and marks come one by one, from any caller: a `Bench` has facts in its type that a call tests first.
 ghost use Rattle.std.specs.Prelude.{◌≡◌, ℕ, ◌/◌, ◌<◌, ◌++◌, length, Err, Decides};
 ghost use Rattle.domain.specs.Binding.{Bound};
 ghost use Rattle.domain.specs.Coverage.{Listed};
@@ -20,6 +21,7 @@ use domain::count::check_count;
 use domain::listing::Listing;
 use domain::marks::Marks;
 use domain::refusal::Refusal;
+use domain::table::check_room;
 use domain::term::Term;
 
 // Makes the table that of the new description: each position alone in its group, free and linear.
@@ -27,7 +29,8 @@ pub fn open_table(table: &mut [u8], positions: u8) -> Result<Marks, Refusal>
     ensures gives { Gives (first_of (open_tests positions ++ room_tests (length table.old))) result (λ m. New positions (told_with m table.new)) }
     ensures kept { (e : Refusal) → result ≡ Err e → table.new ≡ table.old }
 {
-    Limits::of(positions, table.len())?.check_room()?;
+    check_count(positions)?;
+    check_room(table.len())?;
     put_singles(table, positions);
     let every = all(positions);
     Ok(Marks {

@@ -1,6 +1,7 @@
 // The rules, worked in place on a lent table.
 mod allowed;
-mod bind;
+mod asked;
+mod bind_case;
 pub(crate) mod bound;
 mod choice;
 pub(crate) mod forgotten;

@@ -5,14 +5,6 @@ use domain::marks::Marks;
 use domain::term::Term;
 use std::test::Fail;
 
-fn compound(held: u16) -> Term {
-    Term {
-        bare: false,
-        held,
-        repeated: 0,
-    }
-}
-
 #[test]
 fn works_in_place(rt: HostRuntime) -> Result<(), Fail> {
     let mut table = [255; 512];
@@ -22,7 +14,7 @@ fn works_in_place(rt: HostRuntime) -> Result<(), Fail> {
         free: 7,
         linear: 7,
     };
-    let bound = bind_table(&mut table, marks, 0, compound(6))?;
+    let bound = bind_table(&mut table, marks, 0, Term::over(6, 0))?;
     assert_eq!(rt; table[0], 1 << 3 | 1 << 5);
     assert_eq!(rt; bound.free, 6);
     let joined = join_table(

@@ -1,4 +1,5 @@
-// A lent table, and what is known beside it.
+// A lent table, and what is known beside it. It has no `Marks`, so that the groups, with the number of positions,
+// are a field: most methods ask them alone.
 use crate::groups::Groups;
 
 #[derive(Clone, Copy)]

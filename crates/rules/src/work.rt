@@ -1,5 +1,5 @@
 // A rule as a value: what works it need not know which of the three it is.
-ghost use Rattle.std.specs.Prelude.{◌≡◌, ℕ, ◌≤◌, List, None};
+ghost use Rattle.std.specs.Prelude.{◌≡◌, ℕ, ◌≤◌, List, None, Err};
 ghost use Rattle.domain.specs.Binding.{Bound};
 ghost use Rattle.domain.specs.Forgetting.{Forgotten};
 ghost use Rattle.domain.specs.Joining.{Joined};
@@ -24,7 +24,8 @@ pub trait Rule {
     ghost gives: { Self → Told → Told → Type 0 };
 
     fn work(self, table: &mut [u8], marks: Marks) -> Result<Marks, Refusal>
-        ensures { RuleGives (tests self) (gives self) marks table.old result table.new };
+        ensures gives { RuleGives (tests self) (gives self) marks table.old result table.new }
+        ensures kept { (e : Refusal) → result ≡ Err e → table.new ≡ table.old };
 
     // a rule that is not refused had room
     ghost room: { (rule : Self) (n size : ℕ) → None ≡ first_of (tests rule n size) → 512 ≤ size };

@@ -1,4 +1,5 @@
-// A bind that its tests let pass.
+// A bind that its tests let pass. A position and its term go side by side: a struct of them would be made at each
+// call to be taken apart there, and is made only where a rule is handed on as a value.
 ghost use Rattle.rules.specs.Allowed.{BindAllowed};
 
 use super::limits::Limits;

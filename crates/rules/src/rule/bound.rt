@@ -5,7 +5,8 @@ ghost use Rattle.domain.specs.Tables.{told_with};
 ghost use Rattle.rules.specs.Views.{told_on};
 
 use super::allowed::AllowedBind;
-use super::bind::Bind;
+use super::asked::AskedBind;
+use super::bind_case::BindCase;
 use crate::bench::Bench;
 use domain::marks::Marks;
 
@@ -17,10 +18,13 @@ impl Bench<'_> {
         ensures lent { self.new.table.ghost_name ≡ self.old.table.ghost_name }
     {
         let positions = self.marks.positions;
-        let before = self.view();
-        let signs = before.signs_of(allowed);
-        let kept = before.kept(allowed, signs);
-        let bind = Bind {
+        let before = AskedBind {
+            view: self.view(),
+            bind: allowed,
+        };
+        let signs = before.signs();
+        let kept = before.kept(signs);
+        let bind = BindCase {
             x: allowed.x,
             held: allowed.term.held,
             case: signs.chosen(),

@@ -1,28 +1,25 @@
 // Which of the five cases applies.
-ghost use Rattle.std.specs.Prelude.{◌≡◌};
 ghost use Rattle.rules.specs.Signs.{Chosen, Seen};
 ghost use Rattle.rules.specs.Views.{told_by};
 
-use super::allowed::AllowedBind;
+use super::asked::AskedBind;
 use super::signs::{Sign, Signs};
-use crate::view::View;
 use domain::case::Case;
 use domain::mask::has;
 
-impl View<'_> {
+impl AskedBind<'_> {
     // What the rule asks of the position and of the term.
-    pub(crate) fn signs_of(self, bind: AllowedBind) -> Signs
-        requires { bind.limits.positions ≡ self.groups.positions }
-        ensures { Seen (told_by self.entry) bind.x bind.term result }
+    pub(crate) fn signs(self) -> Signs
+        ensures { Seen (told_by self.entry.view) self.entry.bind.x self.entry.bind.term result }
     {
         Signs {
             position: Sign {
-                free: has(self.free, bind.x),
-                linear: has(self.linear, bind.x),
+                free: has(self.view.free, self.bind.x),
+                linear: has(self.view.linear, self.bind.x),
             },
             term: Sign {
-                free: self.is_free(bind),
-                linear: self.is_linear(bind),
+                free: self.is_term_free(),
+                linear: self.is_term_linear(),
             },
         }
     }

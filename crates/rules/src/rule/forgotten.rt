@@ -35,6 +35,7 @@ impl Bench<'_> {
     {
         let positions = self.marks.positions;
         let table = &mut *self.table;
+        // the range stands in the loop: over one that a call gives, the loop has an iterator and no u to say its facts of
         for u in 1..1u16 << positions {
             let on = Groups { table, positions }.is_left(mask, u);
             table::put(table, u, on);

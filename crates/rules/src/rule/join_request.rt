@@ -9,6 +9,7 @@ use crate::mask::all;
 use domain::listing::Listing;
 use domain::mask::{minus, within};
 use domain::refusal::Refusal;
+use domain::table::check_room;
 
 impl Limits {
     #[tactic(auto, using(domain::proofs::Joining::join_lawful_given))]
@@ -21,10 +22,11 @@ impl Limits {
         if self.are_ill(other) {
             return Err(Refusal::Marks);
         }
-        self.check_room()
+        check_room(self.bytes)
     }
 
-    // Whether the groups ascend, from above 0, and are masks of so many positions.
+    // Whether the groups ascend, from above 0, and are masks of so many positions. One walk for both: with
+    // `is_sorted_by` there would be two, and a third test of the first group.
     fn hold(self, groups: &[u16]) -> bool
         ensures { result ≡ ascend self.positions 0 groups.now }
     {

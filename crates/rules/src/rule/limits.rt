@@ -1,7 +1,7 @@
 // What a request on a lent table is checked against.
-ghost use Rattle.std.specs.Prelude.{◌≡◌, ◌<◌, ◌≤◌};
+ghost use Rattle.std.specs.Prelude.{◌≡◌, ◌<◌};
 ghost use Rattle.domain.specs.Refusals.{first_of};
-ghost use Rattle.domain.specs.Requests.{open_tests, reaches, room_tests, Gives};
+ghost use Rattle.domain.specs.Requests.{open_tests, reaches, Gives};
 
 use domain::count::check_count;
 use domain::refusal::Refusal;
@@ -21,16 +21,6 @@ impl Limits {
     {
         check_count(positions)?;
         Ok(Limits { positions, bytes })
-    }
-
-    // Refuses a table of fewer bytes than the masks of 12 positions have bits.
-    pub(crate) fn check_room(self) -> Result<(), Refusal>
-        ensures { Gives (first_of (room_tests self.bytes)) result (λ u. 512 ≤ self.bytes) }
-    {
-        if self.bytes < 512 {
-            return Err(Refusal::Room);
-        }
-        Ok(())
     }
 
     // Whether the mask has a position that there is not.

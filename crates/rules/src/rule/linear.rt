@@ -4,27 +4,30 @@ ghost use Rattle.domain.specs.Binding.{FreeTerm, LinearTerm, Once};
 ghost use Rattle.domain.specs.Told.{Ground};
 ghost use Rattle.rules.specs.Views.{told_by};
 
-use super::allowed::AllowedBind;
+use super::asked::AskedBind;
 use crate::view::View;
 use domain::mask::{has, meets, minus, single};
 use domain::term::Term;
 
-impl View<'_> {
+impl AskedBind<'_> {
     // A bare term holds one position.
-    pub(crate) fn is_free(self, bind: AllowedBind) -> bool
-        ensures { Decides result (FreeTerm (told_by self.entry) bind.term) }
+    pub(crate) fn is_term_free(self) -> bool
+        ensures { Decides result (FreeTerm (told_by self.entry.view) self.entry.bind.term) }
     {
-        bind.term.bare && meets(bind.term.held, self.free)
+        let term = self.bind.term;
+        term.bare && meets(term.held, self.view.free)
     }
 
-    pub(crate) fn is_linear(self, bind: AllowedBind) -> bool
-        requires { bind.limits.positions ≡ self.groups.positions }
-        ensures { Decides result (LinearTerm (told_by self.entry) bind.term) }
+    pub(crate) fn is_term_linear(self) -> bool
+        ensures { Decides result (LinearTerm (told_by self.entry.view) self.entry.bind.term) }
     {
-        let term = bind.term;
-        (0..self.groups.positions).all(|p| !has(term.held, p) || self.is_linear_at(term, p))
+        let term = self.bind.term;
+        let view = self.view;
+        (0..view.groups.positions).all(|p| !has(term.held, p) || view.is_linear_at(term, p))
     }
+}
 
+impl View<'_> {
     // Whether the position is ground, or linear and held once.
     fn is_linear_at(self, term: Term, p: u8) -> bool
         requires { p < self.groups.positions }

@@ -6,14 +6,14 @@ ghost use Rattle.domain.specs.Groups.{Paired, Closure, Extended};
 ghost use Rattle.domain.specs.Told.{Group};
 ghost use Rattle.rules.specs.Views.{told_in};
 
-use super::bind::Bind;
+use super::bind_case::BindCase;
 use crate::groups::Groups;
 use domain::case::Case;
 use domain::mask::{has, meets, single};
 
 impl Groups<'_> {
     // Whether u is a group after the bind. What is made holds x and meets the term; the rest does neither.
-    pub(crate) fn becomes_group(self, bind: Bind, u: u16) -> bool
+    pub(crate) fn becomes_group(self, bind: BindCase, u: u16) -> bool
         ensures { Decides result (NewGroup (Group (told_in self.entry)) bind.x bind.held bind.case u) }
     {
         match (has(u, bind.x), meets(u, bind.held)) {
@@ -23,8 +23,9 @@ impl Groups<'_> {
         }
     }
 
-    // Whether u is one of the groups that the case makes.
-    fn is_made(self, bind: Bind, u: u16) -> bool
+    // Whether u is one of the groups that the case makes. The five cases are a closed set, which a match is known
+    // to cover; closures for them would not be.
+    fn is_made(self, bind: BindCase, u: u16) -> bool
         ensures { Decides result (Made (Group (told_in self.entry)) bind.x bind.held bind.case u) }
     {
         let bound = single(bind.x);

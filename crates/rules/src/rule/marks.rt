@@ -7,11 +7,10 @@ ghost use Rattle.domain.specs.Told.{Ground};
 ghost use Rattle.rules.specs.Signs.{Seen};
 ghost use Rattle.rules.specs.Views.{told_by};
 
-use super::allowed::AllowedBind;
+use super::asked::AskedBind;
 use super::signs::Signs;
 use crate::groups::Groups;
 use crate::mask::all;
-use crate::view::View;
 use domain::mask::{minus, single, without};
 
 #[derive(Clone, Copy)]
@@ -20,20 +19,21 @@ pub(crate) struct Kept {
     pub(crate) linear: u16,
 }
 
-impl View<'_> {
+impl AskedBind<'_> {
     // The positions that stay free, and those that stay linear.
-    pub(crate) fn kept(self, bind: AllowedBind, signs: Signs) -> Kept
-        requires seen { Seen (told_by self) bind.x bind.term signs }
-        ensures free_kept { (p : ℕ) → StaysFree (told_by self.entry) bind.x bind.term p → In p result.free }
-        ensures free_only { (p : ℕ) → In p result.free → StaysFree (told_by self.entry) bind.x bind.term p }
-        ensures linear_kept { (p : ℕ) → StaysLinear (told_by self.entry) bind.x bind.term p → In p result.linear }
-        ensures linear_only { (p : ℕ) → In p result.linear → StaysLinear (told_by self.entry) bind.x bind.term p }
+    pub(crate) fn kept(self, signs: Signs) -> Kept
+        requires seen { Seen (told_by self.view) self.bind.x self.bind.term signs }
+        ensures free_kept { (p : ℕ) → StaysFree (told_by self.entry.view) self.entry.bind.x self.entry.bind.term p → In p result.free }
+        ensures free_only { (p : ℕ) → In p result.free → StaysFree (told_by self.entry.view) self.entry.bind.x self.entry.bind.term p }
+        ensures linear_kept { (p : ℕ) → StaysLinear (told_by self.entry.view) self.entry.bind.x self.entry.bind.term p → In p result.linear }
+        ensures linear_only { (p : ℕ) → In p result.linear → StaysLinear (told_by self.entry.view) self.entry.bind.x self.entry.bind.term p }
     {
-        let near_x = self.groups.reach(single(bind.x));
-        let near_term = self.groups.reach(bind.term.held);
-        let far_free = without(self.free, near_x, !signs.term.free);
+        let AskedBind { view, bind } = self;
+        let near_x = view.groups.reach(single(bind.x));
+        let near_term = view.groups.reach(bind.term.held);
+        let far_free = without(view.free, near_x, !signs.term.free);
         let free = without(far_free, near_term, !signs.position.free);
-        let apart = minus(self.linear, near_x & near_term);
+        let apart = minus(view.linear, near_x & near_term);
         let far_linear = without(apart, near_x, !signs.term.linear);
         let linear = without(far_linear, near_term, !signs.position.linear);
         Kept { free, linear }

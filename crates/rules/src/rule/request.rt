@@ -5,15 +5,18 @@ ghost use Rattle.std.specs.Prelude.{◌≡◌, ◌^◌, ◌<◌, ◌≤◌};
 
 use super::allowed::AllowedBind;
 use super::limits::Limits;
+use domain::count::check_position;
 use domain::mask::{single, within};
 use domain::refusal::Refusal;
+use domain::table::check_room;
 use domain::term::Term;
 
 impl Limits {
     pub(crate) fn check_bind(self, x: u8, term: Term) -> Result<AllowedBind, Refusal>
         ensures { Gives (first_of (bind_tests self.positions x term self.bytes)) result (λ b. (b.limits ≡ self) × (b.x ≡ x) × (b.term ≡ term)) }
     {
-        if x >= self.positions || self.exceeded_by(term.held) || self.exceeded_by(term.repeated) {
+        check_position(self.positions, x)?;
+        if self.exceeded_by(term.held) || self.exceeded_by(term.repeated) {
             return Err(Refusal::Position);
         }
         if is_ill(term) {
@@ -22,7 +25,7 @@ impl Limits {
         if term.bare && term.held == single(x) {
             return Err(Refusal::Itself);
         }
-        self.check_room()?;
+        check_room(self.bytes)?;
         Ok(AllowedBind {
             limits: self,
             x,
@@ -36,7 +39,7 @@ impl Limits {
         if self.exceeded_by(mask) {
             return Err(Refusal::Position);
         }
-        self.check_room()
+        check_room(self.bytes)
     }
 }
 

@@ -1,4 +1,5 @@
-// Which masks are groups, and walks over the groups inside a mask u.
+// Which masks are groups, and walks over the groups inside a mask u. The masks of the two sides, a and b, are
+// given one by one: a rule swaps them, or gives one for both.
 ghost use Rattle.std.specs.Prelude.{◌≡◌, Decides};
 ghost use Rattle.domain.specs.Filling.{Touching, Side, Hull, Filled, Fills, FilledBoth};
 ghost use Rattle.domain.specs.Told.{Group};
@@ -16,7 +17,8 @@ impl Groups<'_> {
         table::is_group(self.table, self.positions, g)
     }
 
-    // The union of the groups inside u that meet both masks.
+    // The union of the groups inside u that meet both masks: 0 where there is none, which no union of groups
+    // is, so an Option would say no more.
     pub(crate) fn hull(self, a: u16, b: u16, u: u16) -> u16
         ensures { Hull (Touching (Group (told_in self.entry)) a b) u result }
     {

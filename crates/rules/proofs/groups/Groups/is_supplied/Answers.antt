@@ -1,12 +1,9 @@
 use Rattle.std.proofs.Common.{◌≡◌, false, sym, rules}
 use Rattle.std.proofs.lemmas.Bool.{both_ways}
-use Rattle.std.proofs.lemmas.Iterator.{cases_from_any}
-use Rattle.std.proofs.lemmas.Iterator.Consumers.{YieldsList-from_first}
 use lib.Bits.{bit_or}
-use Rattle.domain.specs.Subsets.{subsets_from}
 use Rattle.domain.specs.Told.{Group}
 use Rattle.rules.specs.Views.{told_in}
-use Rattle.domain.proofs.Descending.{decides_some}
+use Rattle.domain.proofs.Descending.{any_decides}
 use Rattle.domain.proofs.Forgetting.{decides_supplied, supplied_alone}
 use Rattle.rules.proofs.groups.Groups.is_supplied.Goals as goal
 
@@ -21,11 +18,9 @@ returns-else-is_group c =
     let m = c.args.mask in
     let u = c.args.u in
     decides_supplied G m u _ (λ g. both_ways _ (sym c.if-is_group.ensures) g.told)
-    (decides_some m _
-    (cases_from_any _ _ _ (λ s. G (bit_or u s)) (λ s. G (bit_or u s) → ⊥) c.any.ensures.ran
-    (YieldsList-from_first (λ x. x) (λ s. s) (subsets_from m m) c.of.ensures)
+    (any_decides {Q = λ s. G (bit_or u s)} m c.any.ensures.ran c.of.ensures
     (λ x q k. search rules)
     (λ x q k. (
       search rules,
       λ g. let none : false ≡ d.groups (bit_or u x) = search rules in both_ways _ (sym none) g.told,
-    ))))
+    )))

@@ -4,7 +4,7 @@ ghost use Rattle.std.specs.Prelude.{◌<◌};
 use domain::case::Case;
 
 #[derive(Clone, Copy)]
-pub(crate) struct Bind {
+pub(crate) struct BindCase {
     pub(crate) x: u8,
     pub(crate) held: u16,
     pub(crate) case: Case,

@@ -4,13 +4,13 @@ use Rattle.domain.specs.Leaving.{Without}
 use Rattle.std.proofs.Common.{true, rules}
 use Rattle.rules.specs.Views.{told_by}
 use Rattle.rules.proofs.Staying.{free_kept, free_only, linear_kept, linear_only}
-use Rattle.rules.proofs.view.View.kept.Goals as goal
+use Rattle.rules.proofs.rule.asked.AskedBind.kept.Goals as goal
 
 pub returns : goal.returns
 returns c =
-    let d = told_by c.args.self in
-    let x = c.args.bind.x in
-    let t = c.args.bind.term in
+    let d = told_by c.args.self.view in
+    let x = c.args.self.bind.x in
+    let t = c.args.self.bind.term in
     let s = c.args.signs in
     let a = c.reach-near_x.result in
     let b = c.reach-near_term.result in
