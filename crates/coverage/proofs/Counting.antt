@@ -1,8 +1,14 @@
 -- Lists in which nothing stands twice, and the number of core groups.
-use Rattle.std.proofs.Common.{◌≡◌, ℕ, suc, ◌+◌, ◌*◌, ◌%◌, ◌^◌, ◌<◌, ◌≤◌, ◌≢◌, ◌⊎◌, List, [], ◌∷◌, length, sym, refl, subst, inl, inr, le_antisymm, arith, pow_mono}
+use Rattle.std.proofs.Common.{◌≡◌, ℕ, suc, ◌+◌, ◌*◌, ◌%◌, ◌^◌, ◌<◌, ◌≤◌, ◌≢◌, ◌⊎◌, List, [], ◌∷◌, length, None, Ok, sym, refl, subst, inl, inr, le_antisymm, arith}
 use native.Mathlib.Decide.{ℕ_discrete}
+use Rattle.std.proofs.lemmas.Nat.{one_shl}
 use Rattle.domain.specs.Coverage.{Core, Listed, here, there, CoreFits, SameCover}
+use Rattle.domain.specs.Refusals.{first_of}
+use Rattle.domain.specs.Requests.{open_tests, Gives}
+use Rattle.domain.specs.Tables.{told_of}
+use Rattle.domain.specs.Told.{Group}
 use Rattle.domain.proofs.Laws.{of_group}
+use Rattle.domain.proofs.Refusing.{counted_few}
 use Rattle.coverage.specs.Walks.{TableGroup}
 use Rattle.coverage.specs.Counts.{Distinct, none, more, CoreCount}
 use Rattle.coverage.proofs.Cover.{same_turned}
@@ -144,6 +150,11 @@ count_as f b c =
 pub core_range : (n : ℕ) (t : List ℕ) (g : ℕ) → Core (TableGroup n t) g → (0 < g) × (g < 2 ^ n)
 core_range n t g c = let r = of_group n t 0 0 g c.told in (r.0, r.1)
 
--- the end of the loop: 2 to the power n, as code computes it
-pub shifted_end : (n : ℕ) → n ≤ 12 → 1 * 2 ^ n % 65536 ≡ 2 ^ n
-shifted_end n h = let m : 2 ^ n ≤ 4096 = pow_mono h in omega arith
+-- a count that was given: the number of positions was not refused
+pub counted_core : {k : ℕ} (n : ℕ) (t : List ℕ) → Gives (first_of (open_tests n)) (Ok k) (λ k. (f l : ℕ) → CoreCount (Group (told_of n t f l)) k)
+    → (first_of (open_tests n) ≡ None) × (n < 13) × ((f l : ℕ) → CoreCount (Group (told_of n t f l)) k)
+counted_core {k} n t h = counted_few n k (λ k. (f l : ℕ) → CoreCount (Group (told_of n t f l)) k) h
+
+-- a loop that ends at 2 to the power n, as code computes it, is past every core group
+pub core_below : (n : ℕ) (t : List ℕ) (g : ℕ) → n < 13 → 1 * 2 ^ n % 65536 ≤ g → (h : ℕ) → Core (TableGroup n t) h → h < g
+core_below n t g few past h k = omega (arith, (core_range n t h k).1, one_shl n 16 (omega arith), past)

@@ -6,20 +6,10 @@ use Rattle.domain.specs.Coverage.{Covers, Alike}
 use Rattle.domain.specs.Forgetting.{Stripped, Renewed, Forgotten}
 use Rattle.coverage.specs.Windows.{minus}
 use Rattle.coverage.specs.ForgetLaws.{ForgetCovers, others, itself}
-use Rattle.domain.proofs.Bits.{in_either, in_left, in_right, in_single, single_in, in_pos, in_lacking, lacking_in, same_mask}
+use Rattle.domain.proofs.Bits.{in_either, in_left, in_right, in_single, single_in, in_lacking, lacking_in, same_mask}
+use Rattle.domain.proofs.Forgetting.{stripped}
 use Rattle.coverage.proofs.Decided.{dec_in}
 use Rattle.coverage.proofs.Cover.{alike_turned}
-
--- what a group leaves without m, where it keeps a position
-pub stripped : {d : Told} {m g p : ℕ} → Group d g → In p g → (In p m → ⊥) → Stripped d m (minus g m)
-stripped {m = m} {g = g} t i n =
-    record {
-      group = g;
-      told = t;
-      keeps = λ q j k. in_lacking j k;
-      only = λ q j. lacking_in g m j;
-      not_empty = in_pos (in_lacking i n);
-    }
 
 pub renewed : {m p : ℕ} → In p m → Renewed m (2 ^ p)
 renewed {p = p} i = record { place = p; forgotten = i; only = refl }

@@ -1,14 +1,15 @@
 -- Writing the core groups into a list, in ascending order.
-use Rattle.std.proofs.Common.{◌≡◌, ℕ, ◌+◌, ◌<◌, ◌≤◌, ◌⊎◌, List, [], ◌∷◌, ◌++◌, length, take, drop, set, sym, refl, ap, ◌∙◌, subst, inl, inr, arith, length-append, length-drop, take_at}
+use Rattle.std.proofs.Common.{◌≡◌, ℕ, ◌+◌, ◌-◌, ◌<◌, ◌≤◌, ◌⊎◌, List, [], ◌∷◌, ◌++◌, length, take, drop, set, Some, None, Ok, Option, sym, refl, ap, ◌∙◌, subst, inl, inr, arith, length-append, length-drop, take_at}
 use native.Mathlib.Decide.{ℕ_discrete}
 use Rattle.std.specs.List.{AllByRecursion}
 use Rattle.domain.specs.Coverage.{Core, CoreFits, Listed, here, there}
 use Rattle.domain.proofs.Written.{written_more}
+use Rattle.domain.specs.declared.refusal.Refusal.{Refusal}
 use Rattle.domain.specs.Lists.{Above, none, next}
 use Rattle.coverage.proofs.Counting.{once_le, empty_listed}
 use Rattle.coverage.proofs.ExistsFit.{above_distinct}
 use Rattle.coverage.proofs.Pairs.{core_as}
-use Rattle.coverage.specs.Listing.{FillsCore}
+use Rattle.coverage.specs.Listing.{FillsCore, WritesOr}
 
 listed_front : {g : ℕ} {gs : List ℕ} (h : ℕ) → Listed g gs → Listed g (gs ++ h ∷ [])
 listed_front h here = here
@@ -114,6 +115,19 @@ list_end below w =
       counted = sym w.counted;
       at_start = w.at_start;
     }
+
+-- the list is long enough for what was written at its start
+pub fills_inside : {G : ℕ → Type 0} (list list' : List ℕ) (count : ℕ) → FillsCore G list list' count → length list' ≡ length list → count ≤ length list
+fills_inside list list' count w same =
+    let long : length list' ≡ length w.groups + (length list - count) =
+    ap length w.at_start ∙ length-append w.groups (drop count list) ∙ ap (λ (k : ℕ). length w.groups + k) (length-drop count list) in
+    let counted = w.counted in
+    omega arith
+
+-- a count is given only where nothing is refused
+pub fills_given : (o : Option Refusal) (G : ℕ → Type 0) (list list' : List ℕ) (k : ℕ) → WritesOr o G list list' (Ok k) → FillsCore G list list' k
+fills_given None G list list' k h = h
+fills_given (Some e) G list list' k h = absurd (let q = h.0 in cc)
 
 -- what fills the slots of a roll fills the list that was lent to it
 pub fills_over : {G : ℕ → Type 0} {slots slots' list list' : List ℕ} {used k : ℕ} → slots ≡ list → slots' ≡ list' → k ≡ used

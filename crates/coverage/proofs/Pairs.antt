@@ -56,9 +56,6 @@ pub record Closed (G : ℕ → Type 0) (g p : ℕ) : Type 0 where
 pub record ClosedAt (G : ℕ → Type 0) (g p q : ℕ) : Type 0 where
   pub none : (b : ℕ) → b < q → p ≤ b → OpenPair G g p b → ⊥
 
-pub closed_start : {G : ℕ → Type 0} {g : ℕ} → Closed G g 0
-closed_start = record { none = λ a b h k o. omega arith }
-
 pub closed_at_start : {G : ℕ → Type 0} {g p : ℕ} → ClosedAt G g p p
 closed_at_start = record { none = λ b h k o. omega arith }
 

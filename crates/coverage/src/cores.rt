@@ -10,7 +10,7 @@ ghost use Rattle.domain.specs.Tables.{told_of};
 
 use crate::groups::Groups;
 use domain::count::check_count;
-use domain::mask::has;
+use domain::mask::has_both;
 use domain::refusal::Refusal;
 use domain::subsets::Subsets;
 use domain::table::is_group;
@@ -41,8 +41,9 @@ impl Groups<'_> {
         ensures { Gives (first_of (open_tests self.now.positions)) result (λ k. (f l : ℕ) → CoreCount (Group (told_of self.now.positions self.now.table.now f l)) k) }
     {
         check_count(self.positions)?;
-        // not `filter` and `count`, whose number is a usize
+        // not `filter` and `count`: what they give is known only of a test that computes, and this one decides
         let mut count = 0;
+        // the range stands in the loop: over one that a call gives, the loop has an iterator and no g to say its facts of
         for g in 1..1u16 << self.positions {
             if self.is_core(g) {
                 count += 1;
@@ -55,7 +56,7 @@ impl Groups<'_> {
     fn is_open(&self, g: u16, p: u8, q: u8) -> bool
         ensures { Decides result (OpenPair (TableGroup self.now.positions self.now.table.now) g p q) }
     {
-        has(g, p) && has(g, q) && !self.inside_covers(g, p, q)
+        has_both(g, p, q) && !self.inside_covers(g, p, q)
     }
 
     // Whether a group strictly inside g holds both positions.

@@ -9,8 +9,8 @@ use domain::refusal::Refusal;
 use roll::roll::Roll;
 
 impl Groups<'_> {
-    // Puts the core at the start of a list and says how many groups it has. A list that is too short is
-    // refused and stays.
+    // Puts the core at the start of a list and says how many groups it has, since the list is lent. One that is
+    // too short is refused and stays.
     pub fn write_core(&self, list: &mut [u16]) -> Result<usize, Refusal>
         ensures { (f l : ℕ) → WritesCore self.now.positions self.now.table.now f l list.old list.new result }
     {
@@ -28,6 +28,7 @@ impl Groups<'_> {
         ensures { FillsCore (TableGroup self.now.positions self.now.table.now) list.old list.new result }
     {
         let mut roll = Roll::over(list);
+        // the range stands in the loop: over one that a call gives, the loop has an iterator and no g to say its facts of
         for g in 1..1u16 << self.positions {
             if self.is_core(g) {
                 // there is room, and no group comes twice

@@ -6,7 +6,7 @@ ghost use Rattle.domain.specs.Told.{Group};
 ghost use Rattle.domain.specs.Tables.{told_of};
 
 use crate::groups::Groups;
-use domain::mask::has;
+use domain::mask::has_both;
 use domain::subsets::Subsets;
 use domain::table::is_group;
 
@@ -22,6 +22,6 @@ impl Groups<'_> {
     pub(crate) fn is_holding(&self, g: u16, p: u8, q: u8) -> bool
         ensures { Decides result (Holding (TableGroup self.now.positions self.now.table.now) p q g) }
     {
-        is_group(self.table, self.positions, g) && has(g, p) && has(g, q)
+        is_group(self.table, self.positions, g) && has_both(g, p, q)
     }
 }

@@ -1,6 +1,6 @@
 use Rattle.std.proofs.Common.{arith}
 use Rattle.coverage.proofs.Verdicts.{decided_no}
-use Rattle.coverage.proofs.Counting.{count_start, count_skip, count_one, count_end, count_as, core_range, shifted_end}
+use Rattle.coverage.proofs.Counting.{count_start, count_skip, count_one, count_end, count_as, core_range, core_below}
 use Rattle.domain.proofs.Refusing.{counted_few}
 use Rattle.coverage.proofs.groups.Groups.core_count.Goals as goal
 use Rattle.coverage.proofs.groups.Groups.core_count.Goals.{then-is_core, else-is_core}
@@ -29,11 +29,5 @@ returns c =
     (λ f l.
     count_as (λ g t. record { told = t.told }) (λ g t. record { told = t.told })
     (count_end
-    (λ h k.
-    omega (
-      arith,
-      (core_range c.args.self.now.positions c.args.self.now.table.now h k).1,
-      shifted_end c.args.self.now.positions (let few = given.1 in omega arith),
-      c.loop-g-test.false,
-    ))
+    (core_below c.args.self.now.positions c.args.self.now.table.now _ given.1 (omega (arith, c.loop-g-test.false)))
     c.loop-g.invariant.1))

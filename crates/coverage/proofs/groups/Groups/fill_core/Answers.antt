@@ -2,7 +2,7 @@ use Rattle.std.proofs.Common.{◌≡◌, ◌<◌, length, refl, ap, ◌∙◌, a
 use Rattle.roll.specs.Rolls.{used_after}
 use Rattle.roll.specs.Views.{slots}
 use Rattle.coverage.proofs.Verdicts.{decided_no}
-use Rattle.coverage.proofs.Counting.{core_range, shifted_end}
+use Rattle.coverage.proofs.Counting.{core_range, core_below}
 use Rattle.coverage.proofs.ListedCores.{list_start, list_skip, list_one, list_room, list_long, list_below, list_end, fills_over}
 use Rattle.coverage.proofs.groups.Groups.fill_core.Goals as goal
 use Rattle.coverage.proofs.groups.Groups.fill_core.Goals.{then-is_core, else-is_core}
@@ -36,11 +36,6 @@ pub returns : goal.returns
 returns c =
     let all =
     list_end
-    (λ h k. omega (
-      arith,
-      (core_range c.args.self.now.positions c.args.self.now.table.now h k).1,
-      shifted_end c.args.self.now.positions (let few = c.requires.few in omega arith),
-      c.loop-g-test.false,
-    ))
+    (core_below c.args.self.now.positions c.args.self.now.table.now _ c.requires.few (omega (arith, c.loop-g-test.false)))
     c.loop-g.invariant.0 in
     fills_over c.over-roll.ensures.same (search rules) c.len.ensures all

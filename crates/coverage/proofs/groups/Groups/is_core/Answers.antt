@@ -1,17 +1,7 @@
-use Rattle.std.proofs.Common.{refl, rules}
-use Rattle.coverage.proofs.Verdicts.{decides_yes, decides_no, decided_no}
-use Rattle.coverage.proofs.Pairs.{closed_start, closed_at_start, closed_at_more, closed_more, closed_core, open_core, core_as}
+use Rattle.std.proofs.Common.{rules}
+use Rattle.coverage.proofs.Verdicts.{decides_yes, decides_no}
+use Rattle.coverage.proofs.Pairs.{closed_more, closed_core, open_core, core_as}
 use Rattle.coverage.proofs.groups.Groups.is_core.Goals as goal
-
-pub pairs-init : goal.pairs-init
-pairs-init c = (refl, closed_start)
-
-pub loop-q-init : goal.loop-q-init
-loop-q-init c = (c.pairs.invariant.0, closed_at_start)
-
-pub loop-q-preserved : goal.loop-q-preserved
-loop-q-preserved c =
-    (c.loop-q.invariant.0, closed_at_more (decided_no c.is_open.ensures c.if-is_open.false) c.loop-q.invariant.1)
 
 pub pairs-preserved : goal.pairs-preserved
 pairs-preserved c =
