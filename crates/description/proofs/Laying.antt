@@ -2,7 +2,8 @@
 use Rattle.std.proofs.Common.{◌≡◌, ℕ, ◌/◌, ◌%◌, ◌^◌, ◌<◌, Bool, true, false, cond, eqb, List, ◌++◌, length, get_or, take, refl, ap, arith}
 use mathlib.Core.Path.{fun_ext}
 use Rattle.std.proofs.lemmas.List.{get_or-take, get_or_append_left}
-use Rattle.domain.specs.Tables.{holds_bit, in_range, told_of}
+use Rattle.domain.specs.Tables.{holds_bit, in_range, told_of, told_with}
+use Rattle.domain.specs.declared.marks.Marks.{Marks}
 use Rattle.domain.proofs.Laws.{in_range_lem}
 use Rattle.domain.proofs.Tables.{room_for}
 
@@ -22,9 +23,9 @@ module _ (n f l : ℕ) (s t : List ℕ) (few : n < 13) (same : (i : ℕ) → i <
   told_front : told_of n s f l ≡ told_of n t f l
   told_front = ap (λ (groups : ℕ → Bool). record { n = n; groups = groups; free = f; linear = l }) (fun_ext same_group)
 
-pub told_taken : (n f l : ℕ) (t : List ℕ) → n < 13 → told_of n (take 512 t) f l ≡ told_of n t f l
-told_taken n f l t few = told_front n f l (take 512 t) t few (λ i h. get_or-take 512 t i 0 h)
+pub told_taken : (m : Marks) (t : List ℕ) → m.positions < 13 → told_with m (take 512 t) ≡ told_with m t
+told_taken m t few = told_front m.positions m.free m.linear (take 512 t) t few (λ i h. get_or-take 512 t i 0 h)
 
-pub told_laid : (n f l : ℕ) (t rest : List ℕ) → n < 13 → length t ≡ 512 → told_of n (t ++ rest) f l ≡ told_of n t f l
-told_laid n f l t rest few long =
-    told_front n f l (t ++ rest) t few (λ i h. get_or_append_left t rest 0 i (omega (arith, long, h)))
+pub told_laid : (m : Marks) (t rest : List ℕ) → m.positions < 13 → length t ≡ 512 → told_with m (t ++ rest) ≡ told_with m t
+told_laid m t rest few long =
+    told_front m.positions m.free m.linear (t ++ rest) t few (λ i h. get_or_append_left t rest 0 i (omega (arith, long, h)))

@@ -10,6 +10,6 @@ impl Description {
     pub fn holds(&self, g: u16) -> bool
         ensures { result ≡ (told self.now).groups g }
     {
-        table::is_group(&self.table, self.positions, g)
+        table::is_group(&self.table, self.marks.positions, g)
     }
 }

@@ -20,10 +20,6 @@ impl Description {
         ensures free { result.free ≡ (told self.now).free }
         ensures linear { result.linear ≡ (told self.now).linear }
     {
-        Marks {
-            positions: self.positions,
-            free: self.free,
-            linear: self.linear,
-        }
+        self.marks
     }
 }

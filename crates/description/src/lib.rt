@@ -1,8 +1,8 @@
-// A description: its number of positions, its groups as a bit table, its free and its linear mask.
+// A description: its groups as a bit table, and the marks beside it.
 #![tactic(auto)]
 
-ghost use Rattle.std.specs.Prelude.{◌^◌, ◌<◌};
-ghost use Rattle.description.specs.Lawful.{Counted, FreeLinear, GroundLinear, FreeHeld};
+ghost use Rattle.domain.specs.Tables.{told_with};
+ghost use Rattle.domain.specs.Told.{Lawful};
 
 mod ask;
 mod bind;
@@ -16,15 +16,12 @@ mod read;
 mod tests;
 mod work;
 
+use domain::marks::Marks;
+use domain::table::BYTES;
+
 #[derive(Drop)]
 pub struct Description {
-    positions: u8,
-    table: [u8; 512],
-    free: u16,
-    linear: u16,
-    ghost counted: { Counted positions },
-    ghost bounded: { linear < 2 ^ positions },
-    ghost freed: { FreeLinear free linear },
-    ghost grounded: { GroundLinear positions table linear },
-    ghost held: { FreeHeld positions table free },
+    marks: Marks,
+    table: [u8; BYTES],
+    ghost lawful: { Lawful (told_with marks table) },
 }

@@ -6,19 +6,15 @@ ghost use Rattle.domain.specs.Requests.{open_tests, Gives};
 
 use crate::Description;
 use domain::refusal::Refusal;
+use domain::table::BYTES;
 use rules::lent::open_table;
 
 impl Description {
     pub fn new(positions: u8) -> Result<Description, Refusal>
         ensures { Gives (first_of (open_tests positions)) result (λ e. New positions (told e)) }
     {
-        let mut table = [0; 512];
+        let mut table = [0; BYTES];
         let marks = open_table(&mut table, positions)?;
-        Ok(Description {
-            positions: marks.positions,
-            table,
-            free: marks.free,
-            linear: marks.linear,
-        })
+        Ok(Description { marks, table })
     }
 }

@@ -11,18 +11,18 @@ impl Description {
         ensures count { result ≡ (told self.now).n }
         ensures lawful { Lawful (told self.now) }
     {
-        self.positions
+        self.marks.positions
     }
 
     pub fn free_mask(&self) -> u16
         ensures { result ≡ (told self.now).free }
     {
-        self.free
+        self.marks.free
     }
 
     pub fn linear_mask(&self) -> u16
         ensures { result ≡ (told self.now).linear }
     {
-        self.linear
+        self.marks.linear
     }
 }

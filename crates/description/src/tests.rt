@@ -15,14 +15,6 @@ fn listing(free: u16, linear: u16, groups: &[u16]) -> Listing<'_> {
     }
 }
 
-fn compound(held: u16) -> Term {
-    Term {
-        bare: false,
-        held,
-        repeated: 0,
-    }
-}
-
 // The groups of at most four positions, one bit for each mask, and the two masks.
 fn tells(rt: &impl Abort, d: &Description, groups: u16, free: u16, linear: u16) {
     for g in 0..16u16 {
@@ -44,7 +36,7 @@ fn opens(rt: HostRuntime) -> Result<(), Fail> {
 #[test]
 fn binds_to_a_compound(rt: HostRuntime) -> Result<(), Fail> {
     let mut scratch = [0; 512];
-    let d = Description::new(3)?.bind(0, compound(6), &mut scratch)?;
+    let d = Description::new(3)?.bind(0, Term::over(6, 0), &mut scratch)?;
     tells(&rt, &d, 1 << 3 | 1 << 5, 6, 7);
     assert!(rt; d.share(0, 1)?);
     assert!(rt; !d.share(1, 2)?);
@@ -55,10 +47,10 @@ fn binds_to_a_compound(rt: HostRuntime) -> Result<(), Fail> {
 #[test]
 fn binds_what_shares(rt: HostRuntime) -> Result<(), Fail> {
     let mut scratch = [0; 512];
-    let d = Description::new(4)?.bind(0, compound(6), &mut scratch)?;
-    let e = d.bind(3, compound(3), &mut scratch)?;
+    let d = Description::new(4)?.bind(0, Term::over(6, 0), &mut scratch)?;
+    let e = d.bind(3, Term::over(3, 0), &mut scratch)?;
     tells(&rt, &e, 1 << 11 | 1 << 13, 6, 7);
-    let f = e.bind(0, compound(8), &mut scratch)?;
+    let f = e.bind(0, Term::over(8, 0), &mut scratch)?;
     tells(&rt, &f, 1 << 11 | 1 << 13 | 1 << 15, 0, 0);
     Ok(())
 }
@@ -77,33 +69,17 @@ fn joins_and_forgets(rt: HostRuntime) -> Result<(), Fail> {
 #[test]
 fn refuses(rt: HostRuntime) -> Result<(), Fail> {
     let d = Description::new(4)?;
-    let bare = Term {
-        bare: true,
-        held: 2,
-        repeated: 0,
-    };
-    assert!(rt; refused(d.bind(4, bare, &mut [0; 512]), Refusal::Position));
-    assert!(rt; refused(d.bind(1, bare, &mut [0; 512]), Refusal::Itself));
-    assert!(rt; refused(d.bind(0, bare, &mut [0; 511]), Refusal::Room));
-    assert!(rt;
-        refused(
-            d.join(listing(15, 15, &[2, 1]), &mut [0; 512]),
-            Refusal::Groups
-        )
+    let bare = Term::position(1);
+    assert_eq!(rt;
+        d.bind(4, bare, &mut [0; 512]).err(),
+        Some(Refusal::Position)
     );
-    assert!(rt;
-        refused(
-            d.join(listing(15, 15, &[1, 2]), &mut [0; 512]),
-            Refusal::Marks
-        )
-    );
-    assert!(rt; refused(d.forget(16, &mut [0; 512]), Refusal::Position));
+    assert_eq!(rt; d.bind(1, bare, &mut [0; 512]).err(), Some(Refusal::Itself));
+    assert_eq!(rt; d.bind(0, bare, &mut [0; 511]).err(), Some(Refusal::Room));
+    let falling = listing(15, 15, &[2, 1]);
+    assert_eq!(rt; d.join(falling, &mut [0; 512]).err(), Some(Refusal::Groups));
+    let ill = listing(15, 15, &[1, 2]);
+    assert_eq!(rt; d.join(ill, &mut [0; 512]).err(), Some(Refusal::Marks));
+    assert_eq!(rt; d.forget(16, &mut [0; 512]).err(), Some(Refusal::Position));
     Ok(())
-}
-
-fn refused(r: Result<Description, Refusal>, expected: Refusal) -> bool {
-    match r {
-        Ok(_) => false,
-        Err(e) => e == expected,
-    }
 }

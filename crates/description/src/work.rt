@@ -14,27 +14,21 @@ use rules::work::Rule;
 impl Description {
     // The description that a rule leaves. The rule works in the first 512 bytes of the scratch, and what the
     // scratch holds afterwards is free.
-    pub(crate) fn worked<R: Rule>(
-        &self,
-        scratch: &mut [u8],
-        rule: R,
-    ) -> Result<Description, Refusal>
+    pub fn worked<R: Rule>(&self, scratch: &mut [u8], rule: R) -> Result<Description, Refusal>
         ensures { Gives (first_of (R.tests rule (told self.now).n (length scratch.old))) result (λ e. R.gives rule (told self.now) (told e)) }
     {
-        let before = self.lay(scratch);
-        let after = rule.work(scratch, before)?;
+        self.lay(scratch);
+        let after = rule.work(scratch, self.marks)?;
         Ok(taken(scratch, after))
     }
 
     // Lays the table out in the first 512 bytes of the scratch, where there is room for it.
-    fn lay(&self, scratch: &mut [u8]) -> Marks
-        ensures positions { result.positions ≡ (told self.now).n }
-        ensures tells { 512 ≤ length scratch.old → told_with result scratch.new ≡ told self.now }
+    fn lay(&self, scratch: &mut [u8])
+        ensures { 512 ≤ length scratch.old → told_with self.now.marks scratch.new ≡ told self.now }
     {
         if let Some(work) = scratch.first_chunk_mut() {
             *work = self.table;
         }
-        self.marks()
     }
 }
 
@@ -45,9 +39,7 @@ fn taken(scratch: &[u8], marks: Marks) -> Description
     ensures { told result ≡ told_with marks scratch.now }
 {
     Description {
-        positions: marks.positions,
+        marks,
         table: *scratch.first_chunk().unwrap(),
-        free: marks.free,
-        linear: marks.linear,
     }
 }

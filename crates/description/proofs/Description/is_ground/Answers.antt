@@ -1,6 +1,6 @@
-use Rattle.std.proofs.Common.{◌<◌, ℕ, ◌^◌, arith}
-use Rattle.std.proofs.lemmas.Bool.{lt-leb}
-use Rattle.domain.specs.Tables.{told_of}
+use Rattle.std.proofs.Common.{◌^◌, sym}
+use Rattle.std.proofs.lemmas.Bool.{leb-false}
+use Rattle.domain.proofs.Refusing.{passed}
 use Rattle.description.specs.Descriptions.{told}
 use Rattle.rules.proofs.Asking.{decides_ground}
 use Rattle.rules.proofs.Lending.{gave}
@@ -11,9 +11,5 @@ pub returns : goal.returns
 returns c =
     let d = c.args.self.now in
     let p = c.args.p in
-    let low = (gave _ _ (λ u. p < d.positions) c.in_ok-check_position.ensures).1 in
-    let r = c.in_ok-reached.reached in
-    let reach : Reach (told d) (2 ^ p) r =
-    rw (← c.single.ensures.inside (omega (arith, low, d.counted.1)))
-    ((gave _ r (λ (m : ℕ). (f l : ℕ) → Reach (told_of d.positions d.table f l) c.single.result m) c.in_ok-reached.ensures).1 d.free d.linear) in
-    rw (lt-leb d.positions p low) (decides_ground (told d) p r low reach)
+    let g = gave _ c.in_ok-reached.reached (λ m. Reach (told d) (2 ^ p) m) c.in_ok-reached.ensures in
+    rw g.0 (decides_ground (told d) p c.in_ok-reached.reached (leb-false d.marks.positions p (passed _ _ _ (sym g.0)).0) g.1)

@@ -2,21 +2,16 @@ use Rattle.std.proofs.Common.{◌≡◌, take, sym, subst}
 use Rattle.std.proofs.lemmas.Option.{MatchOption-at_some}
 use Rattle.std.specs.Array.{IsFirstChunk}
 use Rattle.domain.specs.Told.{Told, Lawful}
-use Rattle.description.proofs.Carrying.{carried}
 use Rattle.description.proofs.Laying.{told_taken}
 use Rattle.description.proofs.work.taken.Goals as goal
 
 pub invariant_of-result : goal.invariant_of-result
 invariant_of-result c =
-    let m = c.args.marks in
     let law = c.requires.lawful in
     let front : c.unwrap.result.now ≡ take 512 c.args.scratch.now = (MatchOption-at_some _ (λ y. IsFirstChunk c.args.scratch.now y.now 512) c.unwrap.result c.unwrap.ensures c.first_chunk.ensures.cases).same in
-    carried m.positions c.unwrap.result.now m.free m.linear
-    (rw front
-    (subst (λ (d : Told). Lawful d) (sym (told_taken m.positions m.free m.linear c.args.scratch.now law.few_positions)) law))
+    record { lawful = rw front (subst (λ (d : Told). Lawful d) (sym (told_taken c.args.marks c.args.scratch.now law.few_positions)) law) }
 
 pub returns : goal.returns
 returns c =
-    let m = c.args.marks in
     let front : c.unwrap.result.now ≡ take 512 c.args.scratch.now = (MatchOption-at_some _ (λ y. IsFirstChunk c.args.scratch.now y.now 512) c.unwrap.result c.unwrap.ensures c.first_chunk.ensures.cases).same in
-    rw front (told_taken m.positions m.free m.linear c.args.scratch.now c.requires.lawful.few_positions)
+    rw front (told_taken c.args.marks c.args.scratch.now c.requires.lawful.few_positions)
