@@ -16,7 +16,7 @@ use Rattle.domain.specs.declared.refusal.Refusal.TheVariants.{Order}
 use Rattle.domain.proofs.Bits.{in_single, single_in}
 use Rattle.domain.proofs.Tables.{room_for}
 use Rattle.domain.proofs.Laws.{group_of, of_group}
-use Rattle.keeper.specs.Calls.{Changes, Exactly, Opens, opened, fault_of}
+use Rattle.keeper.specs.Calls.{Changes, Exactly, Opens, opened}
 use Rattle.keeper.specs.declared.fault.KeeperFault.{KeeperFault}
 use Rattle.list_keeper.proofs.Keeping.{own_range}
 use Rattle.list_keeper.proofs.Listing.{test_listed, listed_test}
@@ -96,9 +96,13 @@ opens_stored n scratch e new none capacity None list after is r s =
 -- the tests of the rule are those that an opened keeper is left with
 module _ (Rule : Told → Told → Type 0) (tests : ℕ → ℕ → List Test) (size capacity : ℕ) (held : Option Head) (head : Head) (list : List ℕ)
     (is : held ≡ Some head) (some : 0 < head.marks.positions) (after : Told) (r : Result (Unit {0}) KeeperFault) where
-  of_opened : Changes (first_of (tests head.marks.positions size)) capacity (Rule (tells head list)) Alike (tells head list) after r
-      → Changes (pick (not (opened (told_by held list))) Order (first_of (tests (told_by held list).n size))) capacity (Rule (told_by held list)) Alike
+  -- what a call of the rule promises
+  abbrev Promised : Type 0
+  Promised =
+      Changes (pick (not (opened (told_by held list))) Order (first_of (tests (told_by held list).n size))) capacity (Rule (told_by held list)) Alike
       (told_by held list) after r
+
+  of_opened : Changes (first_of (tests head.marks.positions size)) capacity (Rule (tells head list)) Alike (tells head list) after r → Promised
   of_opened c =
       subst
       (λ (o : Option Head). Changes (pick (not (opened (told_by o list))) Order (first_of (tests (told_by o list).n size))) capacity (Rule (told_by o list)) Alike
@@ -109,17 +113,10 @@ module _ (Rule : Told → Told → Type 0) (tests : ℕ → ℕ → List Test) (
 
   pub changes_stored : (e : Told) → first_of (tests head.marks.positions size) ≡ None → Rule (tells head list) e
       → Stores e capacity (told_by held list) after r
-      → Changes (pick (not (opened (told_by held list))) Order (first_of (tests (told_by held list).n size))) capacity (Rule (told_by held list)) Alike
-      (told_by held list) after r
+      → Promised
   changes_stored e none rule s =
       of_opened (rw none (stored_by r (subst (λ (o : Option Head). Stores e capacity (told_by o list) after r) is s)))
     where
       stored_by : (r : Result (Unit {0}) KeeperFault) → Stores e capacity (tells head list) after r → Changes None capacity (Rule (tells head list)) Alike (tells head list) after r
       stored_by (Ok u) s = (e, rule, s.0, tells_alike s.1)
       stored_by (Err f) s = (s.0, s.1, (e, rule, s.2))
-
-  pub changes_refused : (e : Refusal) → first_of (tests head.marks.positions size) ≡ Some e → r ≡ Err (fault_of e) → after ≡ told_by held list
-      → Changes (pick (not (opened (told_by held list))) Order (first_of (tests (told_by held list).n size))) capacity (Rule (told_by held list)) Alike
-      (told_by held list) after r
-  changes_refused e refused by same =
-      of_opened (rw refused (by, same ∙ ap (λ (o : Option Head). told_by o list) is))

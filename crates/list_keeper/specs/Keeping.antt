@@ -1,23 +1,27 @@
 -- What the inner functions of a list keeper promise.
-use Rattle.std.specs.Prelude.{◌≡◌, ℕ, ◌<◌, ◌≤◌, List, length, take, Ok, Err, Option, Result, slice_index}
+use Rattle.std.specs.Prelude.{◌≡◌, ℕ, ◌<◌, ◌≤◌, true, List, length, take, Ok, Err, Option, Result, slice_index}
 use Rattle.std.specs.Option.{ForSome, ForNone}
 use Rattle.domain.specs.Coverage.{Core, CoreFits, CoreList}
+use Rattle.domain.specs.Requests.{ascend}
 use Rattle.domain.specs.Told.{Told, Group}
 use Rattle.domain.specs.declared.refusal.Refusal.TheVariants.{Capacity}
 use Rattle.keeper.specs.Calls.{fault_of}
 use Rattle.keeper.specs.declared.fault.KeeperFault.{KeeperFault}
-use Rattle.list_keeper.specs.Lawful.{Few, Inside, Rising, OwnCore, Cleared}
 use Rattle.list_keeper.specs.Tells.{tells}
 use Rattle.list_keeper.specs.declared.head.Head.{Head}
 
 -- the rules of an opened keeper hold of a head and a list
 pub record Kept (head : Head) (list : List ℕ) : Type 0 where
   pub some : 0 < head.marks.positions
-  pub few : Few head.marks.positions
-  pub inside : Inside head.count list
-  pub rising : Rising head.marks.positions head.count list
-  pub core : OwnCore head.count list
-  pub cleared : Cleared head.count list
+  pub few : head.marks.positions < 13
+  pub inside : head.count ≤ length list
+  -- the groups ascend, and are masks of so many positions
+  pub rising : ascend head.marks.positions 0 (take head.count list) ≡ true
+  -- no group is anything but a core group: twice denied, since an invariant has one proof at most, and that
+  -- of a core group names one of several pairs
+  pub core : (g : ℕ) → Group (tells head list) g → (Core (Group (tells head list)) g → ⊥) → ⊥
+  -- the entries behind the core are 0
+  pub cleared : (i : ℕ) → head.count ≤ i → slice_index list i ≡ 0
 
 -- what is told afterwards is the core of e, with its masks
 pub record TellsCore (e after : Told) : Type 0 where

@@ -1,4 +1,3 @@
 pub mod Entries
-pub mod Lawful
 pub mod Tells
 pub mod Keeping

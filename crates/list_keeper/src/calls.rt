@@ -13,7 +13,6 @@ use crate::entries::{copy_to, some_holds};
 use crate::head::Head;
 use domain::count::check_position;
 use domain::listing::Listing;
-use domain::mask::has;
 use domain::refusal::Refusal;
 use domain::term::Term;
 use keeper::fault::KeeperFault;
@@ -31,7 +30,8 @@ impl<'a> ListKeeper<'a> {
         ListKeeper { head: None, list }
     }
 
-    // What it knows, once it is opened.
+    // What it knows, once it is opened. One function for both keepers would have to be generic over what is held,
+    // for one line.
     fn opened(&self) -> Result<Head, KeeperFault>
         ensures head { IfOk result (λ h. self.now.head ≡ Some h) }
         ensures kept { IfOk result (λ h. Kept h self.now.list.now) }
@@ -40,7 +40,7 @@ impl<'a> ListKeeper<'a> {
         self.head.ok_or(Refusal::Order.into())
     }
 
-    // The core groups, at the start of the list.
+    // The core groups, at the start of the list. The head is what `opened` gave.
     fn groups(&self, head: Head) -> &[u16]
         requires { self.now.head ≡ Some head }
         ensures groups { result.now ≡ take head.count self.now.list.now }
@@ -61,6 +61,8 @@ impl<'a> ListKeeper<'a> {
     }
 }
 
+// Each call that changes something says again that the list is the one lent, as long as it was, and what stands
+// in it: these speak of the call's start and end, which no invariant does, and a contract is read alone.
 impl Keeper for ListKeeper<'_> {
     ghost told = { λ k. told_by k.head k.list.now };
 
@@ -110,15 +112,11 @@ impl Keeper for ListKeeper<'_> {
     }
 
     fn is_free(&self, position: u8) -> Result<bool, KeeperFault> {
-        let head = self.opened()?;
-        check_position(head.marks.positions, position)?;
-        Ok(has(head.marks.free, position))
+        Ok(self.opened()?.marks.is_free(position)?)
     }
 
     fn is_linear(&self, position: u8) -> Result<bool, KeeperFault> {
-        let head = self.opened()?;
-        check_position(head.marks.positions, position)?;
-        Ok(has(head.marks.linear, position))
+        Ok(self.opened()?.marks.is_linear(position)?)
     }
 
     fn share(&self, p: u8, q: u8) -> Result<bool, KeeperFault> {

@@ -1,22 +1,14 @@
 // The entries of a list of groups.
 ghost use Rattle.std.specs.Prelude.{◌≡◌, ℕ, ◌≤◌, ◌++◌, length, take, drop, Decides, slice_index};
-ghost use Rattle.domain.specs.Masks.{In};
 ghost use Rattle.list_keeper.specs.Entries.{SomeHolds};
 
-use domain::mask::has;
-
-// Does the group hold both positions?
-fn holds_both(g: u16, p: u8, q: u8) -> bool
-    ensures { Decides result (In p g × In q g) }
-{
-    has(g, p) && has(g, q)
-}
+use domain::mask::has_both;
 
 // Does some entry hold both positions?
 pub(crate) fn some_holds(groups: &[u16], p: u8, q: u8) -> bool
     ensures { Decides result (SomeHolds groups.now p q) }
 {
-    groups.iter().any(|g| holds_both(*g, p, q))
+    groups.iter().any(|g| has_both(*g, p, q))
 }
 
 // Makes the entries from one place on 0.

@@ -2,8 +2,7 @@
 #![tactic(auto)]
 
 ghost use Rattle.std.specs.Option.{ForSome};
-ghost use Rattle.std.specs.Prelude.{◌<◌};
-ghost use Rattle.list_keeper.specs.Lawful.{Few, Inside, Rising, OwnCore, Cleared};
+ghost use Rattle.list_keeper.specs.Keeping.{Kept};
 
 pub mod calls;
 mod change;
@@ -23,10 +22,5 @@ pub struct ListKeeper<'a> {
     // none until it is opened
     head: Option<Head>,
     list: &'a mut [u16],
-    ghost some: { ForSome head (λ h. 0 < h.marks.positions) },
-    ghost few: { ForSome head (λ h. Few h.marks.positions) },
-    ghost inside: { ForSome head (λ h. Inside h.count list.now) },
-    ghost rising: { ForSome head (λ h. Rising h.marks.positions h.count list.now) },
-    ghost core: { ForSome head (λ h. OwnCore h.count list.now) },
-    ghost cleared: { ForSome head (λ h. Cleared h.count list.now) },
+    ghost kept: { ForSome head (λ h. Kept h list.now) },
 }

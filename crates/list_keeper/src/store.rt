@@ -13,7 +13,8 @@ use domain::refusal::Refusal;
 use keeper::fault::KeeperFault;
 
 // Puts the core of the table into the list, and the marks beside it. Where the core has more groups than the
-// list has room for, nothing is changed.
+// list has room for, nothing is changed. `some` and `few` are asked here and not in `Marks`: that is a
+// plain struct, whose callers may give any number and be refused by a call.
 pub(crate) fn store(
     head: &mut Option<Head>,
     list: &mut [u16],

@@ -7,34 +7,16 @@ use keeper::keeper::Keeper;
 use keeper::write_out::WrittenOut;
 use std::test::Fail;
 
-fn refused(refusal: Refusal) -> Result<(), KeeperFault> {
+fn refused<T>(refusal: Refusal) -> Result<T, KeeperFault> {
     Err(KeeperFault { refusal })
-}
-
-// f(1, 2, 3)
-fn three() -> Term {
-    Term {
-        bare: false,
-        held: 14,
-        repeated: 0,
-    }
-}
-
-// f(4, 4)
-fn twice() -> Term {
-    Term {
-        bare: false,
-        held: 16,
-        repeated: 16,
-    }
 }
 
 // Opens five positions and binds 0 to f(1, 2, 3), and then to f(4, 4).
 fn bind_both(keeper: &mut ListKeeper) -> Result<(), KeeperFault> {
     let mut scratch = [0; 512];
     keeper.open(5, &mut scratch)?;
-    keeper.bind(0, three(), &mut scratch)?;
-    keeper.bind(0, twice(), &mut scratch)
+    keeper.bind(0, Term::over(14, 0), &mut scratch)?;
+    keeper.bind(0, Term::over(16, 16), &mut scratch)
 }
 
 #[test]
@@ -77,10 +59,5 @@ fn a_list_of_five_is_not(rt: HostRuntime) {
 fn an_empty_list_takes_nothing(rt: HostRuntime) {
     let mut keeper = ListKeeper::new(&mut []);
     assert_eq!(rt; keeper.open(1, &mut [0; 512]), refused(Refusal::Capacity));
-    assert_eq!(rt;
-        keeper.is_ground(0),
-        Err(KeeperFault {
-            refusal: Refusal::Order,
-        })
-    );
+    assert_eq!(rt; keeper.is_ground(0), refused(Refusal::Order));
 }

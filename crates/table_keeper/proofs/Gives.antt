@@ -1,9 +1,8 @@
 -- What a description gives, as the keeper's contracts want it.
-use Rattle.std.proofs.Common.{◌≡◌, ℕ, ◌≤◌, Bool, true, false, not, ◌||◌, eqb, ltb, is_some, Some, None, Ok, Err, Option, Result, sym, refl, ap, subst, arith, le-ltb, ne_eqb, IsErrAnd, ◌∙◌}
-use Rattle.std.proofs.lemmas.Result.{err_from_is_err_and}
+use Rattle.std.proofs.Common.{◌≡◌, ℕ, ◌≤◌, Bool, true, false, not, ◌||◌, eqb, ltb, is_some, Some, None, Ok, Err, Option, Result, sym, refl, ap, subst, arith, le-ltb, ne_eqb}
+use Rattle.std.proofs.lemmas.Bool.{false≢true}
 use Rattle.coverage.proofs.Cover.{alike_refl}
 use Rattle.domain.specs.Coverage.{Alike}
-use Rattle.description.proofs.Carrying.{lawful}
 use Rattle.description.specs.Descriptions.{told}
 use Rattle.domain.specs.Opening.{New}
 use Rattle.domain.specs.Refusals.{first_of, pick}
@@ -12,8 +11,8 @@ use Rattle.domain.specs.Told.{Told}
 use Rattle.description.specs.declared.Description.{Description}
 use Rattle.domain.specs.declared.refusal.Refusal.{Refusal}
 use Rattle.domain.specs.declared.refusal.Refusal.TheVariants.{Count, Order, Room}
-use Rattle.rules.proofs.Lending.{gave, refusal_given}
-use Rattle.keeper.specs.Calls.{Opens, Changes, Exactly, opened, fault_of}
+use Rattle.rules.proofs.Lending.{gave}
+use Rattle.keeper.specs.Calls.{Opens, Changes, Exactly, opened}
 use Rattle.keeper.specs.declared.fault.KeeperFault.{KeeperFault}
 use Rattle.table_keeper.proofs.Fits.{fits_all}
 use Rattle.table_keeper.specs.Tells.{nothing, told_by}
@@ -21,7 +20,7 @@ use Rattle.table_keeper.specs.Tells.{nothing, told_by}
 -- a keeper that holds nothing tells nothing
 unopened : (o : Option Description) → is_some o ≡ false → told_by o ≡ nothing
 unopened None h = refl
-unopened (Some d) h = absurd (let z : ◌≡◌ {A = Bool} true false = h in let q : ◌≡◌ {A = ℕ} 0 1 = cc in omega arith)
+unopened (Some d) h = absurd (false≢true (sym h))
 
 -- the new description is what the keeper tells
 pub opens_new : (n scratch : ℕ) (o : Option Description) (d : Description) → is_some o ≡ false
@@ -32,11 +31,11 @@ opens_new n scratch o d none h room =
   where
     go : (b : Bool) → Gives (pick b Count None) (Ok d) (λ e. New n (told e))
         → Changes (pick b Count (pick (ltb scratch 512) Room None)) 4095 (New n) Exactly nothing (told d) (Ok tt)
-    go true h = absurd (let q = h in let z : ◌≡◌ {A = ℕ} 0 1 = cc in omega arith)
-    go false h = rw (le-ltb scratch 512 room) (told d, h, fits_all (told d) (lawful d), refl)
+    go true h = absurd (let q = h in cc)
+    go false h = rw (le-ltb scratch 512 room) (told d, h, fits_all (told d) d.lawful, refl)
 
 open_told : (d : Description) → not (opened (told d)) ≡ false
-open_told d = ap (λ (b : Bool). not (not b)) (ne_eqb d.positions 0 (λ e. let some = d.counted.0 in omega arith))
+open_told d = ap (λ (b : Bool). not (not b)) (ne_eqb d.marks.positions 0 (λ e. let some = d.lawful.some_positions in omega arith))
 
 -- where what is told is exactly what the rule gives, it is alike
 pub loosened : (o : Option Refusal) (capacity : ℕ) (Rule : Told → Type 0) (before after : Told) (r : Result (Unit {0}) KeeperFault)
@@ -47,17 +46,9 @@ loosened None capacity Rule before after (Err f) h = h
 
 -- a change of the description held, which the description gives or refuses; the tests look at n alone
 module _ (held : Option Description) (d : Description) (is : held ≡ Some d) (tests : ℕ → Option Refusal) (Rule : Told → Told → Type 0) where
-  pub change_made : (e : Description) → Gives (tests d.positions) (Ok e) (λ x. Rule (told d) (told x))
+  pub change_made : (e : Description) → Gives (tests d.marks.positions) (Ok e) (λ x. Rule (told d) (told x))
       → Changes (pick (not (opened (told_by held))) Order (tests (told_by held).n)) 4095 (Rule (told_by held)) Exactly (told_by held) (told e) (Ok tt)
   change_made e h =
-      let g = gave (tests d.positions) e (λ x. Rule (told d) (told x)) h in
+      let g = gave (tests d.marks.positions) e (λ x. Rule (told d) (told x)) h in
       subst (λ (o : Option Description). Changes (pick (not (opened (told_by o))) Order (tests (told_by o).n)) 4095 (Rule (told_by o)) Exactly (told_by o) (told e) (Ok tt))
-      (sym is) (rw (open_told d, g.0) (told e, g.1, fits_all (told e) (lawful e), refl))
-
-  pub change_refused : (f : Refusal) (r : Result (Unit {0}) KeeperFault) → IsErrAnd r (λ x. x ≡ fault_of f)
-      → Gives (tests d.positions) (Err f) (λ x. Rule (told d) (told x))
-      → Changes (pick (not (opened (told_by held))) Order (tests (told_by held).n)) 4095 (Rule (told_by held)) Exactly (told_by held) (told_by held) r
-  change_refused f r e h =
-      let p = err_from_is_err_and r e in
-      subst (λ (o : Option Description). Changes (pick (not (opened (told_by o))) Order (tests (told_by o).n)) 4095 (Rule (told_by o)) Exactly (told_by o) (told_by o) r)
-      (sym is) (rw (open_told d, refusal_given (tests d.positions) f (λ x. Rule (told d) (told x)) h) (p.1 ∙ ap (λ (x : KeeperFault). Err x) p.2, refl))
+      (sym is) (rw (open_told d, g.0) (told e, g.1, fits_all (told e) e.lawful, refl))

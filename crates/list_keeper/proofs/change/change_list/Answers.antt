@@ -1,8 +1,8 @@
-use Rattle.std.proofs.Common.{◌≡◌, length, Some, refl, arith, rules}
+use Rattle.std.proofs.Common.{◌≡◌, length, Some, refl, arith}
 use Rattle.domain.specs.Refusals.{first_of}
 use Rattle.domain.specs.Tables.{told_with}
-use Rattle.rules.proofs.Lending.{rule_made, rule_refusal}
-use Rattle.list_keeper.proofs.Changes.{changes_stored, changes_refused}
+use Rattle.rules.proofs.Lending.{rule_made}
+use Rattle.list_keeper.proofs.Changes.{changes_stored}
 use Rattle.list_keeper.specs.Tells.{tells, told_by}
 use Rattle.list_keeper.proofs.change.change_list.Goals as goal
 
@@ -20,19 +20,6 @@ returns-clause-changes g c =
     let made =
     rule_made (g.R.Rule.gives rule) (λ n k. first_of (g.R.Rule.tests rule n k)) head.marks (tells head list) c.load.new.table size
     kept.some kept.few refl (omega arith) (λ none. g.met.R.Rule.room rule head.marks.positions size none)
-    c.load.ensures c.in_ok-left.left c.work.new.table c.in_ok-left.ensures in
+    c.load.ensures c.in_ok-left.left c.work.new.table c.in_ok-left.ensures.gives in
     changes_stored (g.R.Rule.gives rule) (g.R.Rule.tests rule) size (length list) c.args.head.now head list is kept.some
     (told_by c.store.new.head c.store.new.list) c.store.result (told_with c.in_ok-left.left c.work.new.table) made.0 made.1 c.store.ensures.stores
-
-pub returns-in_err-left-clause-changes : goal.returns-in_err-left-clause-changes
-returns-in_err-left-clause-changes g c =
-    let rule = c.args.rule in
-    let head = c.in_ok-opened.opened in
-    let list = c.args.list.now in
-    let size = length c.args.scratch.now in
-    let is : c.args.head.now ≡ Some head = grind arith in
-    let kept = c.requires head is in
-    changes_refused (g.R.Rule.gives rule) (g.R.Rule.tests rule) size (length list) c.args.head.now head list is kept.some
-    (told_by c.args.head.now list) _ _
-    (rule_refusal (g.R.Rule.gives rule) (λ n k. first_of (g.R.Rule.tests rule n k)) head.marks (tells head list) c.load.new.table size
-    kept.some kept.few refl (omega arith) _ c.work.new.table c.in_err-left.ensures) (search rules) refl

@@ -2,8 +2,9 @@ use Rattle.std.proofs.Common.{◌≡◌, List, ℕ, length, sym, ap, subst, arit
 use Rattle.std.proofs.lemmas.Option.{same_Some}
 use Rattle.std.proofs.lemmas.Result.{err_from_is_err_and}
 use Rattle.std.specs.Option.{ForSome}
-use Rattle.domain.proofs.Mapped.{was_ok, was_err}
-use Rattle.list_keeper.proofs.Keeping.{wrote, refused, fills_inside, stored_kept, stored}
+use Rattle.coverage.proofs.ListedCores.{fills_inside}
+use Rattle.domain.proofs.Mapped.{was_err}
+use Rattle.list_keeper.proofs.Keeping.{wrote, refused, stored}
 use Rattle.list_keeper.specs.Keeping.{Kept}
 use Rattle.list_keeper.specs.Tells.{told_by}
 use Rattle.list_keeper.specs.declared.head.Head.{Head}
@@ -25,24 +26,19 @@ returns-in_err-count c =
 pub clear-requires : goal.clear-requires
 clear-requires c =
     let m = c.args.marks in
-    let ok = was_ok c.map_err.result _ c.write_core.result c.in_ok-count.count c.map_err.ensures.cases c.in_ok-count.was in
-    let w = wrote m c.args.table.now c.args.list.now c.write_core.new.list c.in_ok-count.count c.requires.some c.requires.few
-    (rw ok at c.write_core.ensures m.free m.linear) in
+    let w = wrote m c.args.table.now _ c.write_core.result c.map_err.ensures.cases c.in_ok-count.was (c.write_core.ensures m.free m.linear) in
     let same : length c.write_core.new.list ≡ length c.args.list.now = omega arith in
     omega (arith, fills_inside c.args.list.now c.write_core.new.list c.in_ok-count.count w same)
 
 pub returns : goal.returns
 returns c =
     let m = c.args.marks in
-    let ok = was_ok c.map_err.result _ c.write_core.result c.in_ok-count.count c.map_err.ensures.cases c.in_ok-count.was in
-    let w = wrote m c.args.table.now c.args.list.now c.write_core.new.list c.in_ok-count.count c.requires.some c.requires.few
-    (rw ok at c.write_core.ensures m.free m.linear) in
+    let w = wrote m c.args.table.now _ c.write_core.result c.map_err.ensures.cases c.in_ok-count.was (c.write_core.ensures m.free m.linear) in
     let same : length c.write_core.new.list ≡ length c.args.list.now = omega arith in
     let long : length c.clear.new.list ≡ length c.args.list.now = omega arith in
-    let kept = stored_kept m c.args.table.now c.args.list.now c.write_core.new.list c.clear.new.list c.in_ok-count.count c.requires.some c.requires.few w same long c.clear.ensures.front c.clear.ensures.zero in
+    let s = stored m c.args.table.now c.args.list.now c.write_core.new.list c.clear.new.list c.in_ok-count.count c.requires.some c.requires.few w same long c.clear.ensures.front c.clear.ensures.zero in
     record {
-      kept = λ h is. subst (λ (x : Head). Kept x c.clear.new.list) (same_Some _ h is) kept;
+      kept = λ h is. subst (λ (x : Head). Kept x c.clear.new.list) (same_Some _ h is) s.0;
       untouched = λ is. absurd (cc);
-      stores = stored m c.args.table.now c.args.list.now c.write_core.new.list c.clear.new.list c.in_ok-count.count c.requires.some c.requires.few w same long c.clear.ensures.front c.clear.ensures.zero
-          (told_by c.args.head.now c.args.list.now);
+      stores = s.1 (told_by c.args.head.now c.args.list.now);
     }
