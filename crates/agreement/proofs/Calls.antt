@@ -1,5 +1,6 @@
 -- One call, of two keepers that tell alike descriptions.
-use Rattle.std.proofs.Common.{◌≡◌, ℕ, ◌≤◌, Bool, true, false, not, eqb, List, [], ◌∷◌, length, take, drop, Ok, Err, Option, Result, sym, refl, ap, ◌∙◌, subst, inl, inr, arith, take_at}
+use Rattle.std.proofs.Common.{◌≡◌, ℕ, ◌≤◌, not, eqb, List, [], ◌∷◌, length, take, drop, Ok, Err, Option, Result, sym, refl, ap, ◌∙◌, subst, inl, inr, arith, take_at}
+use Rattle.std.proofs.lemmas.Bool.{both_ways}
 use Rattle.coverage.proofs.BindAlike.{bind_alike}
 use Rattle.coverage.proofs.CoreLeast.{core_kept, core_fits}
 use Rattle.coverage.proofs.Cover.{alike_turned, same_turned}
@@ -29,9 +30,6 @@ opened_alike h = ap (λ (n : ℕ). not (eqb n 0)) h.positions
 fits_list : {d : Told} {k : ℕ} (gs : List ℕ) → CoreList (Group d) gs → length gs ≤ k → CoreFits (Group d) k
 fits_list gs c h = record { groups = gs; short = h; holds = c.all }
 
-never : {A : Type 0} → true ≡ false → A
-never h = absurd (let z : ◌≡◌ {A = Bool} true false = h in let q : ◌≡◌ {A = ℕ} 0 1 = cc in omega arith)
-
 module _ (d d' : Told) (alike : Alike d d') (list list' other other' : List ℕ) (long : length list ≡ length other) where
   pub writes_agree : (r r' : Result WrittenOut KeeperFault) → Writes d list list' r → Writes d' other other' r'
       → of_write_out r list' ≡ of_write_out r' other'
@@ -47,22 +45,22 @@ module _ (d d' : Told) (alike : Alike d d') (list list' other other' : List ℕ)
       cc (front, front', same, count, f, l)
   writes_agree (Ok w) (Err f) h h' =
       elim h'.1 [
-        | inl none ↦ never (sym h.0 ∙ opened_alike alike ∙ none.0)
+        | inl none ↦ absurd (both_ways _ none.0 (sym (opened_alike alike) ∙ h.0))
         | inr small ↦ absurd (small.2 (core_fits alike (fits_list h.3.0 h.3.1 (let i = h.3.3 in omega arith))))
       ]
   writes_agree (Err f) (Ok w) h h' =
       elim h.1 [
-        | inl none ↦ never (sym h'.0 ∙ sym (opened_alike alike) ∙ none.0)
+        | inl none ↦ absurd (both_ways _ none.0 (opened_alike alike ∙ h'.0))
         | inr small ↦ absurd (small.2 (core_fits (alike_turned alike) (fits_list h'.3.0 h'.3.1 (let i = h'.3.3 in omega arith))))
       ]
   writes_agree (Err f) (Err f') h h' =
       elim h.1 [
         | inl none ↦ elim h'.1 [
           | inl none' ↦ ap (λ (x : KeeperFault). refused x.refusal) (none.1 ∙ sym none'.1)
-          | inr small' ↦ never (sym small'.0 ∙ sym (opened_alike alike) ∙ none.0)
+          | inr small' ↦ absurd (both_ways _ none.0 (opened_alike alike ∙ small'.0))
         ]
         | inr small ↦ elim h'.1 [
-          | inl none' ↦ never (sym small.0 ∙ opened_alike alike ∙ none'.0)
+          | inl none' ↦ absurd (both_ways _ none'.0 (sym (opened_alike alike) ∙ small.0))
           | inr small' ↦ ap (λ (x : KeeperFault). refused x.refusal) (small.1 ∙ sym small'.1)
         ]
       ]

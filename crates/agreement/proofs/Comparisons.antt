@@ -1,5 +1,6 @@
 -- What two write-outs say of two descriptions.
-use Rattle.std.proofs.Common.{◌≡◌, ℕ, Bool, true, false, List, length, take, drop, Ok, Err, Decides, Result, sym, refl, ap, ◌∙◌, subst, arith, take_at}
+use Rattle.std.proofs.Common.{◌≡◌, ℕ, Bool, true, false, List, length, take, drop, Ok, Err, Decides, Result, sym, refl, ap, ◌∙◌, subst, take_at}
+use Rattle.std.proofs.lemmas.Bool.{false≢true}
 use Rattle.coverage.proofs.CoreLeast.{core_kept, same_core}
 use Rattle.coverage.proofs.Cover.{same_turned}
 use Rattle.domain.specs.Coverage.{Listed}
@@ -70,7 +71,7 @@ module _ (s t : Told) (first first' second second' : List ℕ) (w v : WrittenOut
       record {
         one = Ok w;
         written = h;
-        rest = (Ok v, k, (false, refl, ((λ e. absurd (let z : ◌≡◌ {A = ℕ} 0 1 = cc in omega arith)), λ m. d.1 (same_from m).0)));
+        rest = (Ok v, k, (false, refl, ((λ e. absurd (false≢true e)), λ m. d.1 (same_from m).0)));
       }
 
   pub compared_by : (b : Bool) → Decides true (w ≡ v) → Decides b (take w.count first' ≡ take w.count second') → Compared s t first first' second second' (Ok b)

@@ -1,24 +1,18 @@
 -- A set of groups has one core list, and alike descriptions have the same.
-use Rattle.std.proofs.Common.{◌≡◌, ℕ, ◌<◌, ◌⊎◌, List, [], ◌∷◌, sym, refl, ap, ◌∙◌, inl, inr, arith}
+use Rattle.std.proofs.Common.{◌≡◌, ℕ, ◌<◌, List, [], ◌∷◌, sym, refl, ap, ◌∙◌, inl, inr, arith}
 use Rattle.domain.specs.Coverage.{Listed, here, there, Core}
 use Rattle.domain.specs.Told.{Told, Group}
 use Rattle.domain.specs.Coverage.{CoreList}
 use Rattle.domain.specs.Lists.{Above, next}
+use Rattle.coverage.proofs.Counting.{listed_cases, empty_listed}
 use Rattle.coverage.proofs.ExistsFit.{above_listed}
-
-nothing_listed : {g : ℕ} → Listed g [] → ⊥
-nothing_listed l = elim l [ ]
-
-listed_head : {g h : ℕ} {gs : List ℕ} → Listed g (h ∷ gs) → (g ≡ h) ⊎ Listed g gs
-listed_head here = inl refl
-listed_head (there l) = inr l
 
 -- the heads of two ascending lists with the same entries
 one_head : (g h : ℕ) (gs hs : List ℕ) → Above g gs → Above h hs → Listed g (h ∷ hs) → Listed h (g ∷ gs) → g ≡ h
 one_head g h gs hs a b l m =
-    elim (listed_head l) [
+    elim (listed_cases l) [
       | inl e ↦ e
-      | inr l' ↦ elim (listed_head m) [
+      | inr l' ↦ elim (listed_cases m) [
         | inl e ↦ sym e
         | inr m' ↦ let i : h < g = above_listed b l' in let j : g < h = above_listed a m' in absurd (omega arith)
       ]
@@ -27,7 +21,7 @@ one_head g h gs hs a b l m =
 -- an entry behind the head of the one stands behind the equal head of the other
 behind : {g h k : ℕ} {gs hs : List ℕ} → g ≡ h → Above g gs → Listed k gs → Listed k (h ∷ hs) → Listed k hs
 behind {g} {h} {k} e a l m =
-    elim (listed_head m) [
+    elim (listed_cases m) [
       | inl same ↦ let i : g < k = above_listed a l in absurd (omega arith)
       | inr m' ↦ m'
     ]
@@ -36,8 +30,8 @@ behind {g} {h} {k} e a l m =
 pub one_list : (last last' : ℕ) (gs hs : List ℕ) → Above last gs → Above last' hs
     → ((g : ℕ) → Listed g gs → Listed g hs) → ((g : ℕ) → Listed g hs → Listed g gs) → gs ≡ hs
 one_list last last' [] [] a b to from = refl
-one_list last last' [] (h ∷ hs) a b to from = absurd (nothing_listed (from h here))
-one_list last last' (g ∷ gs) [] a b to from = absurd (nothing_listed (to g here))
+one_list last last' [] (h ∷ hs) a b to from = empty_listed (from h here)
+one_list last last' (g ∷ gs) [] a b to from = empty_listed (to g here)
 one_list last last' (g ∷ gs) (h ∷ hs) (next p a) (next q b) to from =
     let same : g ≡ h = one_head g h gs hs a b (to g here) (from h here) in
     let rest : gs ≡ hs = one_list g h gs hs a b (λ k l. behind same a l (to k (there l))) (λ k l. behind (sym same) b l (from k (there l))) in

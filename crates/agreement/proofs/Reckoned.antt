@@ -1,17 +1,16 @@
 -- What a keeper tells is alike with its reckoned description.
-use Rattle.std.proofs.Common.{◌≡◌, ℕ, not, eqb, List, [], ◌∷◌, Some, None, Ok, Err, Option, Result, sym, refl, ◌∙◌, subst, arith}
+use Rattle.std.proofs.Common.{ℕ, not, eqb, List, [], ◌∷◌, Some, None, Ok, Err, Option, Result, sym, refl, subst}
+use Rattle.std.proofs.lemmas.Option.{none-some}
 use Rattle.coverage.proofs.BindAlike.{bind_alike}
 use Rattle.coverage.proofs.CoreLeast.{core_fits}
 use Rattle.coverage.proofs.Cover.{alike_turned, alike_trans}
 use Rattle.coverage.proofs.Places.{new_alike}
 use Rattle.coverage.proofs.ForgetCover.{forget_alike}
 use Rattle.coverage.proofs.JoinCover.{join_alike}
-use Rattle.domain.proofs.Bits.{same_mask}
 use Rattle.domain.specs.Binding.{Bound}
 use Rattle.domain.specs.Coverage.{Alike}
 use Rattle.domain.specs.Forgetting.{Forgotten}
 use Rattle.domain.specs.Joining.{Joined}
-use Rattle.domain.specs.Opening.{New}
 use Rattle.domain.specs.Refusals.{first_of}
 use Rattle.domain.specs.Requests.{bind_tests, join_tests, forget_tests}
 use Rattle.domain.specs.Told.{Told}
@@ -24,17 +23,14 @@ use Rattle.agreement.specs.Reckoning as reckoning
 use Rattle.agreement.specs.Reckoning.{Makes, refused, exceeds, makes, Reckons, ReckonsAll, Reckoned, Given}
 use Rattle.agreement.specs.Sessions.{Call, bind, join, forget, ground, free, linear, pair, write_out, Answer, Called, Changed, Session, done, calls}
 
-pub clash : {A : Type 0} {r : Refusal} → None ≡ Some r → A
-clash h = absurd (let z : ◌≡◌ {A = ℕ} 0 1 = cc in omega arith)
-
 -- what is reckoned of a change, and what is told after it
 change_reckoned : (capacity : ℕ) (o : Option Refusal) (Rule Rule' : Told → Type 0) → ((e e' : Told) → Rule e → Rule' e' → Alike e e')
     → (d t e u : Told) (r : Result (Unit {0}) KeeperFault) → Alike d t
     → Makes capacity o Rule d e → Changes o capacity Rule' Alike t u r → Alike e u
 change_reckoned k (Some x) Rule Rule' given d t e u r alike (refused q) h = alike_ends refl h.1 alike
-change_reckoned k (Some x) Rule Rule' given d t e u r alike (exceeds q rule none) h = clash (sym q)
-change_reckoned k (Some x) Rule Rule' given d t e u r alike (makes q rule fits) h = clash (sym q)
-change_reckoned k None Rule Rule' given d t e u r alike (refused q) h = clash q
+change_reckoned k (Some x) Rule Rule' given d t e u r alike (exceeds q rule none) h = absurd (none-some x (sym q))
+change_reckoned k (Some x) Rule Rule' given d t e u r alike (makes q rule fits) h = absurd (none-some x (sym q))
+change_reckoned k None Rule Rule' given d t e u r alike (refused q) h = absurd (none-some _ q)
 change_reckoned k None Rule Rule' given d t e u (Ok x) alike (exceeds {e = m} q rule none) h =
     absurd (none (core_fits (alike_turned (given m h.0 rule h.1)) h.2))
 change_reckoned k None Rule Rule' given d t e u (Err f) alike (exceeds q rule none) h = alike_ends refl h.1 alike

@@ -1,8 +1,9 @@
 -- A reckoned description keeps the rules.
-use Rattle.std.proofs.Common.{◌≡◌, ℕ, ◌^◌, ◌<◌, Bool, true, false, not, eqb, ltb, List, [], ◌∷◌, None, Option, sym, refl, ap, ◌∙◌, subst, arith, leb-false}
+use Rattle.std.proofs.Common.{◌≡◌, ℕ, ◌^◌, ◌<◌, false, not, eqb, ltb, List, [], ◌∷◌, None, Option, sym, refl, ap, ◌∙◌, subst, leb-false}
 use Rattle.coverage.proofs.Kept.{new_lawful, bind_lawful}
 use Rattle.domain.proofs.Forgetting.{forget_lawful}
 use Rattle.domain.proofs.Joining.{join_lawful, join_allowed}
+use Rattle.domain.proofs.Refusing.{passed}
 use Rattle.domain.specs.Forgetting.{Forgotten}
 use Rattle.domain.specs.Joining.{Joined}
 use Rattle.domain.specs.Refusals.{first_of, pick}
@@ -14,11 +15,6 @@ use Rattle.keeper.specs.Calls.{join_refusal, forget_refusal}
 use Rattle.agreement.specs.Reckoning as reckoning
 use Rattle.agreement.specs.Reckoning.{Makes, refused, exceeds, makes, Reckons, ReckonsAll, Reckoned}
 use Rattle.agreement.specs.Sessions.{Call, bind, join, forget, ground, free, linear, pair, write_out}
-
--- where no test refuses, the first is false and so are the others
-pub pick_none : (b : Bool) (e : Refusal) (o : Option Refusal) → pick b e o ≡ None → (b ≡ false) × (o ≡ None)
-pick_none true e o h = absurd (let z : ◌≡◌ {A = ℕ} 0 1 = cc in omega arith)
-pick_none false e o h = (refl, h)
 
 reaches_not : (n m : ℕ) → reaches n m ≡ false → m < 2 ^ n
 reaches_not n m h = leb-false (2 ^ n) m h
@@ -35,12 +31,12 @@ moved p h = subst (λ (x : Told). Lawful x) (sym p) h
 
 pub join_kept : {d e : Told} (f l : ℕ) (hs : List ℕ) (s : ℕ) → Lawful d → join_refusal d f l hs s ≡ None → Joined d f l hs e → Lawful e
 join_kept {d} f l hs s law q r =
-    join_lawful law (join_allowed d.n f l hs s (sym (pick_none (not (not (eqb d.n 0))) Order (first_of (join_tests d.n f l hs s)) q).1)).0 r
+    join_lawful law (join_allowed d.n f l hs s (passed (not (not (eqb d.n 0))) Order (first_of (join_tests d.n f l hs s)) (sym q)).1).0 r
 
 pub forget_kept : {d e : Told} (m s : ℕ) → Lawful d → forget_refusal d m s ≡ None → Forgotten d m e → Lawful e
 forget_kept {d} m s law q r =
     forget_lawful law
-    (reaches_not d.n m (pick_none (reaches d.n m) Position (pick (ltb s 512) Room None) (pick_none (not (not (eqb d.n 0))) Order (first_of (forget_tests d.n m s)) q).1).0) r
+    (reaches_not d.n m (passed (reaches d.n m) Position (pick (ltb s 512) Room None) (passed (not (not (eqb d.n 0))) Order (first_of (forget_tests d.n m s)) (sym q)).1).0) r
 
 pub reckons_lawful : (capacity : ℕ) (c : Call) (d e : Told) → Lawful d → Reckons capacity c d e → Lawful e
 reckons_lawful k (bind x t s) d e law h = makes_lawful k _ _ d e law (λ q r. bind_lawful law r) h

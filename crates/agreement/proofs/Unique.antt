@@ -1,5 +1,6 @@
 -- There is a reckoned description, and only one.
-use Rattle.std.proofs.Common.{◌≡◌, ℕ, ◌⊎◌, List, [], ◌∷◌, Some, None, Option, sym, refl, ◌∙◌, subst, inl, inr, arith}
+use Rattle.std.proofs.Common.{◌≡◌, ℕ, ◌⊎◌, List, [], ◌∷◌, Some, None, Option, sym, refl, ◌∙◌, subst, inl, inr}
+use Rattle.std.proofs.lemmas.Option.{none-some}
 use Rattle.coverage.proofs.ExistsBind.{bind_made}
 use Rattle.coverage.proofs.ExistsFit.{fits_or_not}
 use Rattle.coverage.proofs.ExistsSteps.{new_made, join_made, forget_made}
@@ -12,7 +13,6 @@ use Rattle.domain.specs.Joining.{Joined}
 use Rattle.domain.specs.Told.{Told, Group, Lawful}
 use Rattle.domain.specs.declared.refusal.Refusal.{Refusal}
 use Rattle.keeper.specs.Calls.{bind_refusal, join_refusal, forget_refusal}
-use Rattle.agreement.proofs.Reckoned.{clash}
 use Rattle.agreement.proofs.Rules.{reckons_lawful, join_kept, forget_kept}
 use Rattle.agreement.specs.Laws.{OneReckoned}
 use Rattle.agreement.specs.Reckoning as reckoning
@@ -31,11 +31,11 @@ makes_one : (k : ℕ) (o : Option Refusal) (Rule : Told → Type 0) (d e e' : To
     → Makes k o Rule d e → Makes k o Rule d e' → e ≡ e'
 makes_one k o Rule d e e' one (refused p) (refused q) = refl
 makes_one k o Rule d e e' one (refused p) (exceeds q r n) = refl
-makes_one k o Rule d e e' one (refused p) (makes q r f) = clash (sym q ∙ p)
+makes_one k o Rule d e e' one (refused p) (makes q r f) = absurd (none-some _ (sym q ∙ p))
 makes_one k o Rule d e e' one (exceeds p r n) (refused q) = refl
 makes_one k o Rule d e e' one (exceeds p r n) (exceeds q s m) = refl
 makes_one k o Rule d e e' one (exceeds {e = u} p r n) (makes q s f) = absurd (n (subst (λ (x : Told). CoreFits (Group x) k) (one e' u s r) f))
-makes_one k o Rule d e e' one (makes p r f) (refused q) = clash (sym p ∙ q)
+makes_one k o Rule d e e' one (makes p r f) (refused q) = absurd (none-some _ (sym p ∙ q))
 makes_one k o Rule d e e' one (makes p r f) (exceeds {e = v} q s m) = absurd (m (subst (λ (x : Told). CoreFits (Group x) k) (one e v r s) f))
 makes_one k o Rule d e e' one (makes p r f) (makes q s g) = one e e' r s
 

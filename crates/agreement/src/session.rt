@@ -1,4 +1,5 @@
-// Calls given to a keeper as values: what comes of it is a session, of which the laws over runs speak.
+// Calls given to a keeper as values: what comes of it is a session, of which the laws over runs speak. Each
+// function says that the keeper's capacity stays: a fact of the keeper before and after, which no type can hold.
 ghost use Rattle.std.specs.Prelude.{◌≡◌, min, length, take};
 ghost use Rattle.agreement.specs.Giving.{call_of, calls_of, answer_of, Rest, Held, UnderTheLaws};
 ghost use Rattle.agreement.specs.Sessions.{Called};
@@ -18,6 +19,7 @@ pub fn give<K: Keeper>(
     ensures rest { Rest result list.old list.new }
     ensures same_capacity { K.Keeper.capacity keeper.new ≡ K.Keeper.capacity keeper.old }
 {
+    // a match on a closed set of calls is known to be complete; closures for each would not be
     let answer = match call {
         KeeperCall::Bind { position, term } => {
             keeper.bind(position, term, scratch)?;
@@ -38,7 +40,8 @@ pub fn give<K: Keeper>(
 }
 
 // Gives a keeper calls in their order, refused ones with them, as many as there is room for their answers.
-// The answers stand at the start of `answers`, and its other entries stay; the answer is how many they are.
+// The answers stand at the start of `answers`, and its other entries stay: the list is lent, so their number is
+// told.
 pub fn give_all<K: Keeper>(
     keeper: &mut K,
     calls: &[KeeperCall<'_>],
@@ -52,7 +55,7 @@ pub fn give_all<K: Keeper>(
     ensures same_capacity { K.Keeper.capacity keeper.new ≡ K.Keeper.capacity keeper.old }
 {
     let number = calls.len().min(answers.len());
-    // not a `zip` with `iter_mut`: no value is known of a list behind its adapters
+    // not a `zip` with `iter_mut`: no value is known of a list behind an adapter of it but `enumerate`
     for (i, call) in calls[..number].iter().enumerate() {
         answers[i] = give(keeper, *call, scratch, list);
     }

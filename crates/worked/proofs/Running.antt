@@ -1,7 +1,7 @@
 -- Calls run on a computed description: what is reckoned of them, and what every keeper answers.
 use Rattle.std.proofs.Common.{◌≡◌, ℕ, ◌^◌, Bool, true, false, not, ◌&&◌, ltb, leb, List, [], ◌∷◌, length, Some, None, Ok, Err, Option, sym, refl, arith}
 use Rattle.std.proofs.lemmas.Bool.{leb-true, leb-false, and_parts, both_ways}
-use Rattle.agreement.proofs.Rules.{pick_none, join_kept, forget_kept, reckons_lawful}
+use Rattle.agreement.proofs.Rules.{join_kept, forget_kept, reckons_lawful}
 use Rattle.agreement.specs.Reckoning as reckoning
 use Rattle.agreement.specs.Reckoning.{Makes, refused, exceeds, makes, Reckons, ReckonsAll}
 use Rattle.agreement.specs.Sessions as sessions
@@ -10,7 +10,7 @@ use Rattle.coverage.proofs.Counting.{count_fits, fits_count}
 use Rattle.coverage.proofs.Cover.{alike_refl}
 use Rattle.coverage.proofs.ExistsFit.{list_counted}
 use Rattle.coverage.proofs.Kept.{bind_lawful}
-use Rattle.domain.proofs.Refusing.{bind_allowed}
+use Rattle.domain.proofs.Refusing.{passed, bind_allowed}
 use Rattle.domain.specs.Binding.{Bound}
 use Rattle.domain.specs.Coverage.{Alike, CoreFits, CoreList}
 use Rattle.domain.specs.Forgetting.{Forgotten}
@@ -105,7 +105,7 @@ record Done (k : ℕ) (c : Call) (s : State) (r : Outcome) : Type 0 where
 bind_rule : (s : State) (x : ℕ) (t : Term) (z : ℕ) → Lawful (tell s) → bind_refusal (tell s) x t z ≡ None
     → Bound (tell s) x t (tell (bind_of s x t)) × Lawful (tell (bind_of s x t))
 bind_rule s x t z law q =
-    let r = bind_allowed s.n x t z (sym (pick_none (not (opened (tell s))) Order (first_of (bind_tests s.n x t z)) q).1) in
+    let r = bind_allowed s.n x t z (passed (not (opened (tell s))) Order (first_of (bind_tests s.n x t z)) (sym q)).1 in
     let b = bound s x t r.1.0 r.1.1.0 in
     (b, bind_lawful law b)
 
@@ -116,8 +116,8 @@ join_rule s f l hs z law q = let b = steps.join s f l hs in (b, join_kept f l hs
 forget_rule : (s : State) (m z : ℕ) → Lawful (tell s) → forget_refusal (tell s) m z ≡ None
     → Forgotten (tell s) m (tell (forget_of s m)) × Lawful (tell (forget_of s m))
 forget_rule s m z law q =
-    let r = pick_none (not (opened (tell s))) Order (first_of (forget_tests s.n m z)) q in
-    let h = pick_none (reaches s.n m) Position (pick (ltb z 512) Room None) r.1 in
+    let r = passed (not (opened (tell s))) Order (first_of (forget_tests s.n m z)) (sym q) in
+    let h = passed (reaches s.n m) Position (pick (ltb z 512) Room None) r.1 in
     let b = steps.forget s m (leb-false (2 ^ s.n) m h.0) in
     (b, forget_kept m z law q b)
 
