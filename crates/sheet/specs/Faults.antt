@@ -1,10 +1,11 @@
 -- Faults on a sheet: number, layer, step and place.
-use Rattle.std.specs.Prelude.{◌≡◌, ℕ, Bool, ◌==◌}
-use Rattle.std.specs.Ordering.{on, eq_of_both}
-use Rattle.domain.specs.contracts.refusal.LayerPartialEq.TheImpl as layer_eq
+use Rattle.std.specs.Prelude.{◌≡◌, ℕ, Bool}
+use Rattle.std.specs.Ordering.{on}
+use Rattle.sheet.specs.contracts.fault.RefusedPartialEq.TheImpl as refused_eq
 use Rattle.domain.specs.Refusals.{number_of}
 use Rattle.domain.specs.declared.refusal.Layer.{Layer}
 use Rattle.domain.specs.declared.refusal.Layer.TheVariants as layer
+use Rattle.sheet.specs.declared.fault.Refused.{Refused}
 use Rattle.sheet.specs.declared.fault.RunnerFault.{RunnerFault}
 use Rattle.sheet.specs.declared.fault.RunnerFault.TheVariants.{Reader, Runner, Keeper}
 use Rattle.sheet.specs.declared.fault.SheetFault.{SheetFault}
@@ -28,6 +29,10 @@ place_in (Keeper f) place = place
 abbrev pub fault_at : RunnerFault → ℕ → ℕ → SheetFault
 fault_at f step place = record { cause = f; step = step; place = place_in f place }
 
+-- what is told of a fault
+abbrev pub refused_of : SheetFault → Refused
+refused_of f = record { number = number_in f.cause; place = f.place; step = f.step; layer = layer_in f.cause }
+
 -- two faults are the same when number, layer, step and place agree
 pub record SameFault (f g : SheetFault) : Type 0 where
   pub number : number_in f.cause ≡ number_in g.cause
@@ -37,8 +42,4 @@ pub record SameFault (f g : SheetFault) : Type 0 where
 
 -- the test of that, which `==` computes
 abbrev pub fault_eq : SheetFault → SheetFault → Bool
-fault_eq =
-    eq_of_both (on (λ f. number_in f.cause) ◌==◌)
-    (eq_of_both (on (λ f. layer_in f.cause) (layer_eq.ghosts).eq)
-    (eq_of_both (on (λ f. f.step) ◌==◌)
-    (on (λ f. f.place) ◌==◌)))
+fault_eq = on refused_of (refused_eq.ghosts).eq

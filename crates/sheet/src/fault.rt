@@ -1,8 +1,8 @@
 // Faults: the reader's, the runner's and the sheet's. Each one holds the one below whole.
 ghost use Rattle.std.specs.Prelude.{◌≡◌, ◌↔◌, IsTrue};
 ghost use Rattle.std.specs.Cmp.Rules.{comparing};
-ghost use Rattle.domain.specs.contracts.refusal.LayerEq.TheImpl.Laws.{laws-law};
-ghost use Rattle.sheet.specs.Faults.{number_in, layer_in, fault_at, fault_eq, SameFault};
+ghost use Rattle.sheet.specs.contracts.fault.RefusedEq.TheImpl.Laws.{laws-law};
+ghost use Rattle.sheet.specs.Faults.{number_in, layer_in, fault_at, refused_of, fault_eq, SameFault};
 ghost use Rattle.sheet.specs.declared.fault.RunnerFault.TheVariants.{Reader, Keeper};
 
 use domain::refusal::{Layer, Refusal};
@@ -29,16 +29,16 @@ pub enum RunnerFault {
 impl From<ReaderFault> for RunnerFault {
     ghost from_gives = { λ f r. r ≡ Reader f };
 
-    fn from(fault: ReaderFault) -> RunnerFault {
-        RunnerFault::Reader(fault)
+    fn from(fault: ReaderFault) -> Self {
+        Self::Reader(fault)
     }
 }
 
 impl From<KeeperFault> for RunnerFault {
     ghost from_gives = { λ f r. r ≡ Keeper f };
 
-    fn from(fault: KeeperFault) -> RunnerFault {
-        RunnerFault::Keeper(fault)
+    fn from(fault: KeeperFault) -> Self {
+        Self::Keeper(fault)
     }
 }
 
@@ -67,7 +67,29 @@ pub struct SheetFault {
     pub place: usize,
 }
 
+// What is told of a refusal: its number, its byte, its step and who refuses.
+#[derive(Clone, Copy, PartialEq, Eq, Debug)]
+pub struct Refused {
+    // any number can be printed, so it is no `Refusal`
+    pub number: u8,
+    pub place: usize,
+    pub step: usize,
+    pub layer: Layer,
+}
+
 impl SheetFault {
+    // What is told of the fault.
+    pub fn refused(&self) -> Refused
+        ensures { result ≡ refused_of self.now }
+    {
+        Refused {
+            number: self.number(),
+            place: self.place,
+            step: self.step,
+            layer: self.layer(),
+        }
+    }
+
     // The refusal's number.
     pub fn number(&self) -> u8
         ensures { result ≡ number_in self.now.cause }
@@ -91,7 +113,7 @@ impl SheetFault {
     }
 }
 
-// Two faults are the same when number, layer, step and place agree.
+// Two faults are the same when the same is told of both: a derive would compare their causes too.
 impl PartialEq for SheetFault {
     ghost eq = { fault_eq };
 
@@ -101,10 +123,7 @@ impl PartialEq for SheetFault {
         ensures test { result ≡ fault_eq self.now other.now }
         ensures same { IsTrue result ↔ SameFault self.now other.now }
     {
-        self.number() == other.number()
-            && self.layer() == other.layer()
-            && self.step == other.step
-            && self.place == other.place
+        self.refused() == other.refused()
     }
 }
 

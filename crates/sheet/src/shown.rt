@@ -1,8 +1,8 @@
-// How a mark and a fault are shown.
+// How a mark, a refusal and a fault are shown.
 ghost use Rattle.std.specs.Prelude.{◌≡◌, Some};
-ghost use Rattle.sheet.specs.Shown.{answer_name, fault_text, mark_text};
+ghost use Rattle.sheet.specs.Shown.{answer_name, fault_text, mark_text, refused_text};
 
-use crate::fault::SheetFault;
+use crate::fault::{Refused, SheetFault};
 use crate::mark::StepMark;
 use std::fmt;
 
@@ -22,14 +22,26 @@ impl fmt::Display for StepMark {
 }
 
 // What was refused, where, and by whom.
+impl fmt::Display for Refused {
+    ghost output = { λ r. Some (refused_text r) };
+
+    fn fmt<W: fmt::Write>(&self, f: &mut fmt::Formatter<W>) -> fmt::Result {
+        let Refused {
+            number,
+            place,
+            step,
+            layer,
+        } = *self;
+        write!(f, "refused {number} at {place} step {step} {layer}")
+    }
+}
+
+// A fault is shown by what is told of it.
 impl fmt::Display for SheetFault {
     ghost output = { λ f. Some (fault_text f) };
 
     fn fmt<W: fmt::Write>(&self, f: &mut fmt::Formatter<W>) -> fmt::Result {
-        let SheetFault { step, place, .. } = *self;
-        let number = self.number();
-        let layer = self.layer();
-        write!(f, "refused {number} at {place} step {step} {layer}")
+        self.refused().fmt(f)
     }
 }
 
