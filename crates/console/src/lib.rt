@@ -1,11 +1,13 @@
-// What the programs share: a sheet from standard input, run on a keeper, printed line by line.
+// What the programs share: a sheet from standard input, run on a keeper, printed line by line. Each function
+// says that the keeper's capacity stays: a fact of the keeper before and after, which no type can hold.
 #![tactic(auto)]
 
 ghost use Rattle.std.specs.Prelude.{◌≡◌, IfOk, string_bytes, OnOk};
 ghost use Rattle.console.specs.Printing.{Prints, Served};
 
+use domain::table::BYTES;
 use keeper::keeper::Keeper;
-use runner::run::run;
+use runner::run::{LONGEST_SHEET, run};
 use sheet::mark::StepMark;
 use std::alloc::{AllocError, Global};
 use std::io::Read;
@@ -16,10 +18,9 @@ const MARKS: usize = 4_096;
 
 const GROUPS: usize = 4_095;
 
-const SCRATCH: usize = 512;
-
-// One byte more than a sheet can have: enough to see that it is too long.
-const MOST_INPUT: u64 = 65_536;
+// One byte more than a sheet can have: enough to see that it is too long. The cast widens; `u64` has no `From`
+// of `usize`.
+const MOST_INPUT: u64 = LONGEST_SHEET as u64 + 1;
 
 // Runs a sheet on a keeper, and gives what is to be printed of it.
 pub fn run_sheet<K: Keeper>(
@@ -32,7 +33,7 @@ pub fn run_sheet<K: Keeper>(
 {
     let mut marks = [StepMark::blank(); MARKS];
     let mut groups = [0; GROUPS];
-    let mut scratch = [0; SCRATCH];
+    let mut scratch = [0; BYTES];
     let outcome = run(keeper, bytes, &mut marks, &mut groups, &mut scratch);
     transcript(heap, &marks, outcome)
 }

@@ -29,14 +29,14 @@ impl SheetRecord<'_> {
     fn one_position(&self) -> Result<u8, ReaderFault>
         ensures { result ≡ one_of self.now.sheet.now self.now.frame }
     {
-        self.expect_len(2)?;
+        self.expect(self.len() == 2)?;
         self.position_at(1)
     }
 
     fn two_positions(&self) -> Result<(u8, u8), ReaderFault>
         ensures { result ≡ two_of self.now.sheet.now self.now.frame }
     {
-        self.expect_len(3)?;
+        self.expect(self.len() == 3)?;
         let left = self.position_at(1)?;
         let right = self.position_at(2)?;
         Ok((left, right))

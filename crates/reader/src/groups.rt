@@ -5,7 +5,8 @@ ghost use Rattle.reader.specs.Records.{groups_at};
 use crate::record::pair;
 
 // Puts so many groups at the start of a list, whose other entries stay. Where they do not all lie on the
-// sheet, or do not fit the list, none is put there.
+// sheet, or do not fit the list, none is put there. Where they start and how many they are comes from a step,
+// which holds places, and no slice of the sheet.
 pub fn copy_groups(sheet: &[u8], start: usize, count: usize, groups: &mut [u16])
     ensures copied { start + 2 * count ≤ length sheet.now → count ≤ length groups.old → take count groups.new ≡ groups_at sheet.now start count }
     ensures others { drop count groups.new ≡ drop count groups.old }

@@ -23,11 +23,12 @@ pub fn next_step(sheet: &[u8], state: State, at: usize) -> Result<Next, RunnerFa
     ensures within { IfOk result (λ x. (at < x.end) × (x.end ≤ length sheet.now)) }
     ensures inside { IfOk result (λ x. Inside sheet.now x.step) }
 {
+    // before the record is read: any byte after the end is out of order, whatever it says
     if state == State::Ended {
         return Err(RunnerFault::Runner(Refusal::Order));
     }
     let record = SheetRecord::read(sheet, at, sheet.len())?;
-    let kind = record.frame.step_kind()?;
+    let kind = record.frame.kind_of()?;
     let state = state.after(kind)?;
     let step = record.step(kind)?;
     Ok(Next {

@@ -1,15 +1,13 @@
-ghost use Rattle.std.specs.Prelude.{◌≡◌, ◌≢◌, ◌+◌, ◌<◌, ◌≤◌, length, Ok, Err, IfOk, IfErr};
+ghost use Rattle.std.specs.Prelude.{◌≡◌, ◌+◌, ◌<◌, ◌≤◌, true, false, length, Ok, Err, IfOk, IfErr};
 ghost use Rattle.domain.specs.declared.refusal.Refusal.TheVariants.{Length};
 ghost use Rattle.reader.specs.Records.{record_at, pair_at, payload, position_at, Part, Within};
 
+use domain::count::{MOST_POSITIONS, check_position};
 use domain::refusal::Refusal;
 use sheet::fault::ReaderFault;
 
 // A length and a kind stand before the payload.
 const HEAD: usize = 4;
-
-// No description has more positions.
-const POSITIONS: u8 = 12;
 
 // Where a record starts, its kind, and where its payload starts and ends.
 #[derive(Clone, Copy)]
@@ -31,6 +29,14 @@ impl Record {
             refusal,
             place: self.place,
         }
+    }
+
+    // The kind of what the record holds, a step or a term.
+    pub(crate) fn kind_of<K: TryFrom<u16, Error = Refusal> + Drop>(self) -> Result<K, ReaderFault>
+        ensures ok { IfOk result (λ k. K.try_from_gives self.kind (Ok k)) }
+        ensures err { IfErr result (λ f. K.try_from_gives self.kind (Err f.refusal) × (f.place ≡ self.place)) }
+    {
+        K::try_from(self.kind).map_err(|refusal| self.fault(refusal))
     }
 }
 
@@ -93,16 +99,15 @@ impl<'a> SheetRecord<'a> {
         self.frame.end - self.frame.start
     }
 
-    // Refuses a payload of any other length.
-    pub(crate) fn expect_len(&self, len: usize) -> Result<(), ReaderFault>
-        ensures ok { IfOk result (λ _. payload self.now.frame ≡ len) }
-        ensures err { IfErr result (λ f. (payload self.now.frame ≢ len) × (f ≡ record { refusal = Length; place = self.now.frame.place })) }
+    // Refuses a payload whose length does not fit.
+    pub(crate) fn expect(&self, fits: bool) -> Result<(), ReaderFault>
+        ensures ok { IfOk result (λ _. fits ≡ true) }
+        ensures err { IfErr result (λ f. (fits ≡ false) × (f ≡ record { refusal = Length; place = self.now.frame.place })) }
     {
-        if self.len() == len {
-            Ok(())
-        } else {
-            Err(self.frame.fault(Refusal::Length))
+        if !fits {
+            return Err(self.frame.fault(Refusal::Length));
         }
+        Ok(())
     }
 
     // The byte of the payload at an offset, which names a position.
@@ -111,12 +116,10 @@ impl<'a> SheetRecord<'a> {
         ensures value { result ≡ position_at self.now.sheet.now self.now.frame (self.now.frame.start + offset) }
         ensures small { IfOk result (λ p. p < 12) }
     {
-        let position = self.sheet[self.frame.start + offset];
-        if position < POSITIONS {
-            Ok(position)
-        } else {
-            Err(self.frame.fault(Refusal::Position))
-        }
+        let frame = self.frame;
+        let position = self.sheet[frame.start + offset];
+        check_position(MOST_POSITIONS, position).map_err(|refusal| frame.fault(refusal))?;
+        Ok(position)
     }
 
     // Two bytes of the payload from an offset on, little-endian.

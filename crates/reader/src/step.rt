@@ -1,20 +1,10 @@
 ghost use Rattle.std.specs.Prelude.{◌≡◌, IfOk};
 ghost use Rattle.sheet.specs.Steps.{Inside};
-ghost use Rattle.reader.specs.Payloads.{step_kind_of, open_of, bind_of, join_of, forget_of, ask_of, end_of, step_of};
+ghost use Rattle.reader.specs.Payloads.{open_of, bind_of, join_of, forget_of, ask_of, end_of, step_of};
 
-use crate::record::{Record, SheetRecord};
-use domain::refusal::Refusal;
+use crate::record::SheetRecord;
 use sheet::fault::ReaderFault;
 use sheet::step::{Step, StepKind};
-
-impl Record {
-    // The kind of the step that the record holds.
-    pub(crate) fn step_kind(self) -> Result<StepKind, ReaderFault>
-        ensures { result ≡ step_kind_of self }
-    {
-        StepKind::try_from(self.kind).map_err(|refusal| self.fault(refusal))
-    }
-}
 
 impl SheetRecord<'_> {
     // The step of this kind: first the payload's length, then the payload left to right.
@@ -22,6 +12,7 @@ impl SheetRecord<'_> {
         ensures value { result ≡ step_of self.now.sheet.now self.now.frame kind }
         ensures inside { IfOk result (λ s. Inside self.now.sheet.now s) }
     {
+        // a match on a closed set is known to be complete; closures for each kind would not be
         match kind {
             StepKind::Open => self.open(),
             StepKind::Bind => self.bind(),
@@ -35,22 +26,18 @@ impl SheetRecord<'_> {
     fn open(&self) -> Result<Step, ReaderFault>
         ensures { result ≡ open_of self.now.sheet.now self.now.frame }
     {
-        self.expect_len(1)?;
+        self.expect(self.len() == 1)?;
         Ok(Step::Open(self.sheet[self.frame.start]))
     }
 
     fn bind(&self) -> Result<Step, ReaderFault>
         ensures { result ≡ bind_of self.now.sheet.now self.now.frame }
     {
-        if self.len() < 5 {
-            return Err(self.frame.fault(Refusal::Length));
-        }
+        self.expect(self.len() >= 5)?;
         let position = self.position_at(0)?;
         let inner = self.inner(self.frame.start + 1)?;
         let term = inner.term()?;
-        if inner.frame.end != self.frame.end {
-            return Err(self.frame.fault(Refusal::Length));
-        }
+        self.expect(inner.frame.end == self.frame.end)?;
         Ok(Step::Bind { position, term })
     }
 
@@ -58,9 +45,7 @@ impl SheetRecord<'_> {
     fn join(&self) -> Result<Step, ReaderFault>
         ensures { result ≡ join_of self.now.sheet.now self.now.frame }
     {
-        if self.len() < 4 || self.len() % 2 != 0 {
-            return Err(self.frame.fault(Refusal::Length));
-        }
+        self.expect(self.len() >= 4 && self.len() % 2 == 0)?;
         Ok(Step::Join {
             free: self.pair_at(0),
             linear: self.pair_at(2),
@@ -72,23 +57,21 @@ impl SheetRecord<'_> {
     fn forget(&self) -> Result<Step, ReaderFault>
         ensures { result ≡ forget_of self.now.sheet.now self.now.frame }
     {
-        self.expect_len(2)?;
+        self.expect(self.len() == 2)?;
         Ok(Step::Forget(self.pair_at(0)))
     }
 
     fn ask(&self) -> Result<Step, ReaderFault>
         ensures { result ≡ ask_of self.now.sheet.now self.now.frame }
     {
-        if self.len() < 2 || self.len() > 3 {
-            return Err(self.frame.fault(Refusal::Length));
-        }
+        self.expect((2..=3).contains(&self.len()))?;
         Ok(Step::Ask(self.question()?))
     }
 
     fn end(&self) -> Result<Step, ReaderFault>
         ensures { result ≡ end_of self.now.frame }
     {
-        self.expect_len(0)?;
+        self.expect(self.len() == 0)?;
         Ok(Step::End)
     }
 }

@@ -7,11 +7,7 @@ use domain::term::Term;
 pub(crate) fn empty() -> Term
     ensures { result ≡ nothing }
 {
-    Term {
-        bare: false,
-        held: 0,
-        repeated: 0,
-    }
+    Term::over(0, 0)
 }
 
 // What is known of a position by itself.
@@ -19,20 +15,16 @@ pub(crate) fn single(place: u8) -> Term
     requires { place < 12 }
     ensures { result ≡ summary (position place) }
 {
-    Term {
-        bare: true,
-        held: 1 << place,
-        repeated: 0,
-    }
+    Term::position(place)
 }
 
 // What is known of two terms side by side.
 pub(crate) fn join(left: Term, right: Term) -> Term
     ensures { result ≡ beside left right }
 {
-    Term {
-        bare: false,
-        held: left.held | right.held,
-        repeated: left.repeated | right.repeated | (left.held & right.held),
-    }
+    let both = left.held & right.held;
+    Term::over(
+        left.held | right.held,
+        left.repeated | right.repeated | both,
+    )
 }

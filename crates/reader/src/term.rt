@@ -6,7 +6,7 @@ ghost use Rattle.reader.specs.TermKinds.{term_kind};
 ghost use Rattle.reader.specs.Terms.{nothing};
 ghost use Rattle.reader.specs.Trees.{position_of, constant_of, compound_by, compound_of, args_of, tree_of, summed, onto, term_of, SumsUp};
 
-use crate::record::{Record, SheetRecord};
+use crate::record::SheetRecord;
 use crate::sum::{empty, join, single};
 use domain::refusal::Refusal;
 use domain::term::Term;
@@ -39,15 +39,6 @@ impl TryFrom<u16> for TermKind {
     }
 }
 
-impl Record {
-    // The kind of the term that the record holds.
-    fn term_kind(self) -> Result<TermKind, ReaderFault>
-        ensures { result ≡ ok_or (term_kind self.kind) (record { refusal = Kind; place = self.place }) }
-    {
-        TermKind::try_from(self.kind).map_err(|refusal| self.fault(refusal))
-    }
-}
-
 impl SheetRecord<'_> {
     // The term of a record, summed up: what is held occurs in it, and what is repeated more than once.
     #[tactic(auto, using(crate::proofs::Occurrences::sums_up))]
@@ -63,7 +54,8 @@ impl SheetRecord<'_> {
     fn nested(&self, depth: u8) -> Result<Term, ReaderFault>
         ensures { result ≡ summed (tree_of self.now.sheet.now depth self.now.frame) }
     {
-        match self.frame.term_kind()? {
+        // a match on a closed set is known to be complete; closures for each kind would not be
+        match self.frame.kind_of::<TermKind>()? {
             TermKind::Position => self.position(),
             TermKind::Constant => self.constant(),
             TermKind::Compound => self.compound(depth),
@@ -73,14 +65,14 @@ impl SheetRecord<'_> {
     fn position(&self) -> Result<Term, ReaderFault>
         ensures { result ≡ summed (position_of self.now.sheet.now self.now.frame) }
     {
-        self.expect_len(1)?;
+        self.expect(self.len() == 1)?;
         Ok(single(self.position_at(0)?))
     }
 
     fn constant(&self) -> Result<Term, ReaderFault>
         ensures { result ≡ summed (constant_of self.now.sheet.now self.now.frame) }
     {
-        self.expect_len(2)?;
+        self.expect(self.len() == 2)?;
         Ok(empty())
     }
 
@@ -90,9 +82,7 @@ impl SheetRecord<'_> {
     fn compound(&self, depth: u8) -> Result<Term, ReaderFault>
         ensures { result ≡ summed (compound_by self.now.sheet.now (compound_of self.now.sheet.now depth) self.now.frame) }
     {
-        if self.len() < 6 {
-            return Err(self.frame.fault(Refusal::Length));
-        }
+        self.expect(self.len() >= 6)?;
         if depth == 0 {
             return Err(self.frame.fault(Refusal::Depth));
         }

@@ -12,9 +12,10 @@ use std::process::Abort;
 // The first step of a sheet.
 fn first(sheet: &[u8]) -> Result<Step, ReaderFault> {
     let record = SheetRecord::read(sheet, 0, sheet.len())?;
-    record.step(record.frame.step_kind()?)
+    record.step(record.frame.kind_of()?)
 }
 
+// The parts of a term one by one, here and of a join below, so that a test is a row.
 fn bound(rt: &impl Abort, sheet: &[u8], bare: bool, held: u16, repeated: u16) {
     let term = Term {
         bare,
@@ -28,7 +29,7 @@ fn refused(rt: &impl Abort, sheet: &[u8], refusal: Refusal, place: usize) {
     assert_eq!(rt; first(sheet), Err(ReaderFault { refusal, place }));
 }
 
-// A bind to a constant inside so many compounds.
+// A bind to a constant inside so many compounds, written by places: each length counts what is further in.
 fn tower(depth: usize) -> [u8; 128]
     requires { depth ≤ 17 }
 {

@@ -1,5 +1,5 @@
 -- Keepers with room that play one script write the same marks and end alike.
-use Rattle.std.proofs.Common.{◌≡◌, ℕ, ◌+◌, ◌≤◌, Bool, not, ◌||◌, eqb, ltb, ◌⊎◌, List, [], ◌∷◌, ◌++◌, length, drop, Some, None, Ok, Err, Option, Result, sym, refl, ap, ◌∙◌, subst, inl, inr, arith}
+use Rattle.std.proofs.Common.{◌≡◌, ℕ, ◌+◌, ◌≤◌, Bool, not, ◌||◌, eqb, ltb, ◌⊎◌, List, [], ◌∷◌, ◌++◌, length, drop, Some, None, Ok, Err, Option, Result, sym, refl, ap, ◌∙◌, subst, inl, inr}
 use Rattle.agreement.proofs.Agreeing.{answers_agree, alike_ends, fits_more}
 use Rattle.coverage.proofs.Places.{new_alike}
 use Rattle.coverage.proofs.BindAlike.{bind_alike}
@@ -161,13 +161,13 @@ module _ (small large : ℕ) (room : small ≤ large) (scratch : ℕ) (sheet : L
       ]
   plays_match (follows place s rest) k d d' e e' ms ms' r r' m enough (stops {f = f} h) (goes {e = i} {b = b} h' p') =
       elim (serves_match small large room d d' m scratch sheet s e i (Err f) (Ok b) h h') [
-        | inl same ↦ absurd (let q = same.0 in let z : ◌≡◌ {A = ℕ} 0 1 = cc in omega arith)
+        | inl same ↦ absurd (let q = same.0 in cc)
         | inr low ↦ let p : f ≡ fault_of Capacity = cc in absurd (enough (fault_at (Keeper f) k place) refl (ap (λ (x : KeeperFault). Keeper x) p))
       ]
   plays_match (follows place s rest) k d d' e e' ms ms' r r' m enough (goes {e = i} {b = b} h p) (stops {f = f} h') =
       elim (serves_match small large room d d' m scratch sheet s i e' (Ok b) (Err f) h h') [
-        | inl same ↦ absurd (let q = same.0 in let z : ◌≡◌ {A = ℕ} 0 1 = cc in omega arith)
-        | inr low ↦ absurd (let z : ◌≡◌ {A = ℕ} 0 1 = cc in omega arith)
+        | inl same ↦ absurd (let q = same.0 in cc)
+        | inr low ↦ absurd cc
       ]
   plays_match (follows place s rest) k d d' e e' ms ms' r r' m enough (goes {e = i} {b = b} {marks = us} h p) (goes {e = i'} {b = b'} {marks = vs} h' p') =
       elim (serves_match small large room d d' m scratch sheet s i i' (Ok b) (Ok b') h h') [
@@ -175,7 +175,7 @@ module _ (small large : ℕ) (room : small ≤ large) (scratch : ℕ) (sheet : L
             let c : b ≡ b' = (let q = same.0 in cc) in
             let more = plays_match rest (k + 1) i i' e e' us vs r r' same.1 enough p p' in
             (ap (λ (x : Bool). mark_of place s x ∷ us) c ∙ ap (λ (l : List StepMark). mark_of place s b' ∷ l) more.0, more.1, more.2)
-        | inr low ↦ absurd (let z : ◌≡◌ {A = ℕ} 0 1 = cc in omega arith)
+        | inr low ↦ absurd cc
       ]
 
 pub ran_everywhere : (capacity scratch : ℕ) (sheet : List ℕ) (groups : ℕ) (before after : Told) (marks marks' : List StepMark) (r : Result ℕ SheetFault)

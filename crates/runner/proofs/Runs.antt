@@ -30,13 +30,6 @@ turns_alike a b s t g h sheet c next d e marks marks' r p q o w =
     subst (λ (x : ℕ). Turns b t sheet x c next d e marks marks' r) o
     (subst (λ (x : ℕ). Turns b x sheet g c next d e marks marks' r) q (subst (λ (x : ℕ). Turns x s sheet g c next d e marks marks' r) p w))
 
--- a turn that the keeper refuses
-pub turns_stop : (a s : ℕ) (sheet : List ℕ) (groups : ℕ) (c : Cursor) (next : Next) (read : Result Next RunnerFault) (f : KeeperFault) (d e : Told) (marks : List StepMark) (r : Result Cursor RunnerFault) (x : RunnerFault)
-    → Ok next ≡ read → c.step < length marks → group_count next.step ≤ groups
-    → Serves a s sheet next.step d e (Err f) → r ≡ Err x → x ≡ Keeper f → Turns a s sheet groups c read d e marks marks r
-turns_stop a s sheet groups c next read f d e marks r x is room fit serves stop cause =
-    rw (← is, lt-ltb c.step (length marks) room, le-ltb groups (group_count next.step) fit) (Err f, serves, (stop ∙ ap (λ (y : RunnerFault). Err y) cause, refl))
-
 -- a turn that the keeper answers, with its mark behind the marks in use
 pub turns_go : (a s : ℕ) (sheet : List ℕ) (groups : ℕ) (c : Cursor) (next : Next) (read : Result Next RunnerFault) (b : Bool) (d e : Told) (marks marks' : List StepMark) (used : ℕ) (sort : StepKind)
     → Ok next ≡ read → used < length marks → group_count next.step ≤ groups → Serves a s sheet next.step d e (Ok b)
@@ -132,20 +125,20 @@ module _ (capacity scratch : ℕ) (sheet : List ℕ) (groups : ℕ) (before : To
             let past' : c.at < next.end = rw (ap (λ (x : Cursor). x.at) same) at past in
             let within' : next.end ≤ length sheet = rw (ap (λ (x : Cursor). x.at) same) at within in
             rw (same, m.1) (runs_goes next b w.turns n room fit past' within' serves w refl)
-        answered next n room fit (Err f) serves m = absurd (let q = m.0 in let z : ◌≡◌ {A = ℕ} 0 1 = cc in omega arith)
+        answered next n room fit (Err f) serves m = absurd (let q = m.0 in cc)
 
         roomy : (next : Next) → next_at sheet c.state c.at ≡ Ok next → (b : Bool) → ltb c.step (length marks) ≡ b
             → (many : Bool) → ltb groups (group_count next.step) ≡ many
             → Hands b many capacity scratch sheet c next d e marks marks' (Ok c') → Running c' e marks'
         roomy next n true r false o h =
             answered next n (rw long at (ltb-true c.step (length marks) r)) (ltb-false groups (group_count next.step) o) h.0 h.1 h.2
-        roomy next n true r true o h = absurd (let q = h.0 in let z : ◌≡◌ {A = ℕ} 0 1 = cc in omega arith)
-        roomy next n false r many o h = absurd (let q = h.0 in let z : ◌≡◌ {A = ℕ} 0 1 = cc in omega arith)
+        roomy next n true r true o h = absurd (let q = h.0 in cc)
+        roomy next n false r many o h = absurd (let q = h.0 in cc)
 
         read : (next : Result Next RunnerFault) → next_at sheet c.state c.at ≡ next
             → Turns capacity scratch sheet groups c next d e marks marks' (Ok c') → Running c' e marks'
         read (Ok next) n t = roomy next n (ltb c.step (length marks)) refl (ltb groups (group_count next.step)) refl t
-        read (Err f) n t = absurd (let q = t.0 in let z : ◌≡◌ {A = ℕ} 0 1 = cc in omega arith)
+        read (Err f) n t = absurd (let q = t.0 in cc)
 
     -- the run ends here, with no mark more
     stopped : (w : Running c d marks) (r : Result ℕ SheetFault) → marks' ≡ marks
@@ -182,7 +175,7 @@ module _ (capacity scratch : ℕ) (sheet : List ℕ) (groups : ℕ) (before : To
         answered : (next : Next) → next_at sheet c.state c.at ≡ Ok next → c.step < length marks₀ → group_count next.step ≤ groups
             → (answer : Result Bool KeeperFault) → Serves capacity scratch sheet next.step d e answer
             → Marks c next answer marks marks' (Err f) → Ran capacity scratch sheet groups before e marks₀ marks' (Err (fault_at f c.step c.at))
-        answered next n room fit (Ok b) serves m = absurd (let q = m.0 in let z : ◌≡◌ {A = ℕ} 0 1 = cc in omega arith)
+        answered next n room fit (Ok b) serves m = absurd (let q = m.0 in cc)
         answered next n room fit (Err g) serves m =
             let same : f ≡ Keeper g = (let q = m.0 in cc) in
             let left : length marks₀ - c.step ≡ suc (length marks₀ - (c.step + 1)) = omega arith in

@@ -19,7 +19,7 @@ pub const LONGEST_SHEET: usize = 65_535;
 // Runs a sheet: the number of its steps, or the fault at which it stops. The lists are work lists:
 // the marks of the steps that were done stand at the start of `marks`, and the others stay; `groups`
 // takes the groups of a join, and its contents and those of `scratch` afterwards are free.
-#[tactic(auto, using(crate::proofs::Runs::long_sheet_ran, crate::proofs::Meanings::ran_everywhere))]
+#[tactic(auto, using(crate::proofs::Runs::long_sheet_ran, crate::proofs::Runs::ran_over, crate::proofs::Meanings::ran_everywhere))]
 pub fn run<K: Keeper>(
     keeper: &mut K,
     sheet: &[u8],
@@ -42,6 +42,8 @@ pub fn run<K: Keeper>(
     run_steps(keeper, sheet, &mut roll, groups, scratch)
 }
 
+// One runner for any keeper, over lists that its caller lends: keeper, sheet and lists go one by one from here on
+// to `serve`, as they came.
 fn run_steps<K: Keeper>(
     keeper: &mut K,
     sheet: &[u8],

@@ -23,7 +23,8 @@ pub(crate) fn serve<K: Keeper>(
     ensures serves { Serves (K.Keeper.capacity keeper.old) (length scratch.old) sheet.now step (K.Keeper.told keeper.old) (K.Keeper.told keeper.new) result }
     ensures same_capacity { K.Keeper.capacity keeper.new ≡ K.Keeper.capacity keeper.old }
 {
-    // a match on a closed set of steps: a closure for each would not be known to be complete
+    // a match on a closed set of steps: a closure for each would not be known to be complete; and no call of
+    // `agreement`, since a step may open, and its groups lie on the sheet
     match step {
         Step::Open(n) => keeper.open(n, scratch)?,
         Step::Bind { position, term } => keeper.bind(position, term, scratch)?,

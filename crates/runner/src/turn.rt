@@ -41,10 +41,7 @@ pub(crate) fn take_step<K: Keeper>(
     ensures same_capacity { K.Keeper.capacity keeper.new ≡ K.Keeper.capacity keeper.old }
 {
     let next = next_step(sheet, cursor.state, cursor.at)?;
-    if marks.len() >= marks.capacity() {
-        return Err(RunnerFault::Runner(Refusal::Room));
-    }
-    if next.step.groups() > groups.len() {
+    if marks.len() >= marks.capacity() || next.step.groups() > groups.len() {
         return Err(RunnerFault::Runner(Refusal::Room));
     }
     let answer = serve(keeper, sheet, next.step, groups, scratch)?;

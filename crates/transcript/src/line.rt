@@ -1,8 +1,8 @@
-// Lines one by one, for callers that print while they run.
+// Lines one by one, for a caller that prints one at a time. The programs print the whole transcript.
 ghost use Rattle.std.specs.Prelude.{◌≡◌, IfOk, string_bytes};
 ghost use Rattle.transcript.specs.Lines.{mark_line, refusal_line};
 
-use domain::refusal::Layer;
+use sheet::fault::Refused;
 use sheet::mark::StepMark;
 use std::alloc::{AllocError, Global};
 
@@ -13,15 +13,9 @@ pub fn mark_line(heap: Global, mark: StepMark) -> Result<String, AllocError>
     format!(in heap; "{mark}\n")
 }
 
-// The last line of a sheet that was refused: the refusal's number, its place, its step and who refuses.
-pub fn refusal_line(
-    heap: Global,
-    number: u8,
-    place: usize,
-    step: usize,
-    layer: Layer,
-) -> Result<String, AllocError>
-    ensures { IfOk result (λ s. string_bytes s ≡ refusal_line number place step layer) }
+// The last line of a sheet that was refused.
+pub fn refusal_line(heap: Global, refused: Refused) -> Result<String, AllocError>
+    ensures { IfOk result (λ s. string_bytes s ≡ refusal_line refused) }
 {
-    format!(in heap; "refused {number} at {place} step {step} {layer}\n")
+    format!(in heap; "{refused}\n")
 }

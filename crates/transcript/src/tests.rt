@@ -1,6 +1,7 @@
 // The two lines.
 use crate::line::{mark_line, refusal_line};
 use domain::refusal::Layer;
+use sheet::fault::Refused;
 use sheet::mark::StepMark;
 use sheet::step::StepKind;
 use std::test::Fail;
@@ -21,7 +22,13 @@ fn lines(rt: HostRuntime) -> Result<(), Fail> {
     };
     let line = mark_line(rt.alloc(), mark)?;
     assert_eq!(rt; line.as_str(), "7 forget yes\n");
-    let line = refusal_line(rt.alloc(), 7, 5, 1, Layer::Keeper)?;
+    let refused = Refused {
+        number: 7,
+        place: 5,
+        step: 1,
+        layer: Layer::Keeper,
+    };
+    let line = refusal_line(rt.alloc(), refused)?;
     assert_eq!(rt; line.as_str(), "refused 7 at 5 step 1 keeper\n");
     Ok(())
 }

@@ -1,27 +1,10 @@
 use Rattle.std.proofs.Common.{◌≡◌, ◌+◌, ◌<◌, length, refl, ap, ◌∙◌, arith, length-set}
-use Rattle.std.proofs.lemmas.Result.{err_from_is_err_and}
 use Rattle.roll.specs.Rolls.{used_after}
 use Rattle.roll.specs.Views.{slots}
 use Rattle.runner.proofs.Marking.{marked_more}
-use Rattle.runner.proofs.Runs.{turns_go, turns_stop}
+use Rattle.runner.proofs.Runs.{turns_go}
 use Rattle.runner.proofs.turn.take_step.Goals as goal
 use Rattle.reader.specs.Following.{next_at}
-
-pub returns-in_err-answer : goal.returns-in_err-answer
-returns-in_err-answer g c =
-    let p = err_from_is_err_and c.from_residual-in_err-answer.result c.from_residual-in_err-answer.ensures.1 in
-    let room : c.args.cursor.step < length (slots c.args.marks.now) = omega (arith, c.len.ensures, c.capacity.ensures, c.requires.marked.counted) in
-    record {
-      turns = turns_stop _ _ _ _ c.args.cursor c.in_ok-next.next (next_at c.args.sheet.now c.args.cursor.state c.args.cursor.at)
-          c.in_err-answer.field-0.0 (g.K.Keeper.told c.args.keeper.now) (g.K.Keeper.told c.serve.new.keeper) (slots c.args.marks.now) c.from_residual-in_err-answer.result p.0 c.in_ok-next.ensures.value
-          room (let q = c.groups.ensures in let l = c.if-groups.false in omega arith)
-          c.in_err-answer.ensures.serves p.1 p.2;
-      onward = rw p.1 tt;
-      marked = rw p.1 tt;
-      long = refl;
-      lent = refl;
-      same_capacity = c.serve.ensures.same_capacity;
-    }
 
 pub returns : goal.returns
 returns g c =
