@@ -12,13 +12,6 @@ use list_keeper::ListKeeper;
 use std::test::Fail;
 use table_keeper::TableKeeper;
 
-// f(1, 2)
-const PAIR: Term = Term {
-    bare: false,
-    held: 6,
-    repeated: 0,
-};
-
 // 0 is bound to f(1, 2), a description in which 2 alone is open is joined, and 1 is forgotten. A join and a
 // question are refused.
 fn give_calls<K: Keeper>(
@@ -29,7 +22,8 @@ fn give_calls<K: Keeper>(
     let calls = [
         KeeperCall::Bind {
             position: 0,
-            term: PAIR,
+            // f(1, 2)
+            term: Term::over(6, 0),
         },
         KeeperCall::Ask(Question::Pair(0, 2)),
         KeeperCall::Ask(Question::Pair(1, 2)),

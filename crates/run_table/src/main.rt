@@ -1,4 +1,5 @@
-// Runs a sheet from standard input on the table keeper.
+// Runs a sheet from standard input on the table keeper: a program of its own, with `run_list` beside it, since a
+// sheet names no keeper.
 #![tactic(auto)]
 
 use console::run_input;

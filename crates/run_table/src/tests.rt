@@ -6,21 +6,13 @@ use domain::term::Term;
 use keeper::fault::KeeperFault;
 use keeper::keeper::Keeper;
 use runner::run::run;
+use sheet::fault::Refused;
 use sheet::mark::StepMark;
 use sheet::step::StepKind;
 use std::alloc::Global;
 use std::process::Abort;
 use std::test::Fail;
 use table_keeper::TableKeeper;
-
-// A description that is handed over.
-fn listing(free: u16, linear: u16, groups: &[u16]) -> Listing<'_> {
-    Listing {
-        free,
-        linear,
-        groups,
-    }
-}
 
 fn prints(rt: &impl Abort, heap: Global, sheet: &[u8], text: &str, what: &str) -> Result<(), Fail> {
     let mut keeper = TableKeeper::new();
@@ -140,6 +132,23 @@ fn numbers_out_of_range(rt: HostRuntime) -> Result<(), Fail> {
 }
 
 #[test]
+fn joins_of_no_description(rt: HostRuntime) -> Result<(), Fail> {
+    let sheets: [(&str, &[u8], &str); 2] = [
+        (
+            "groups that do not ascend",
+            b"\x01\x00\x01\x00\x02\x08\x00\x03\x00\x03\x00\x03\x00\x02\x00\x01\x00\x00\x00\x06\x00",
+            "0 open yes\nrefused 9 at 5 step 1 keeper\n",
+        ),
+        (
+            "a free position that is not linear",
+            b"\x01\x00\x01\x00\x02\x08\x00\x03\x00\x03\x00\x01\x00\x01\x00\x02\x00\x00\x00\x06\x00",
+            "0 open yes\nrefused 10 at 5 step 1 keeper\n",
+        ),
+    ];
+    all_print(&rt, rt.alloc(), &sheets)
+}
+
+#[test]
 fn depths_and_letters(rt: HostRuntime) -> Result<(), Fail> {
     let sheets: [(&str, &[u8], &str); 5] = [
         (
@@ -213,11 +222,14 @@ fn short_work_lists(rt: HostRuntime) -> Result<(), Fail> {
     ) else {
         return Err(Fail::new("there is room for one mark only"));
     };
-    assert!(rt;
-        fault.number() == 13
-            && fault.layer() == Layer::Runner
-            && fault.step == 1
-            && fault.place == 5
+    assert_eq!(rt;
+        fault.refused(),
+        Refused {
+            number: 13,
+            place: 5,
+            step: 1,
+            layer: Layer::Runner,
+        }
     );
     let Err(fault) = run(
         &mut TableKeeper::new(),
@@ -228,11 +240,42 @@ fn short_work_lists(rt: HostRuntime) -> Result<(), Fail> {
     ) else {
         return Err(Fail::new("scratch is one byte short"));
     };
-    assert!(rt;
-        fault.number() == 13
-            && fault.layer() == Layer::Keeper
-            && fault.step == 0
-            && fault.place == 0
+    assert_eq!(rt;
+        fault.refused(),
+        Refused {
+            number: 13,
+            place: 0,
+            step: 0,
+            layer: Layer::Keeper,
+        }
+    );
+    Ok(())
+}
+
+// The groups of a join need as many entries of the list that is lent for them.
+#[test]
+fn one_group_too_few(rt: HostRuntime) -> Result<(), Fail> {
+    let sheet =
+        b"\x01\x00\x01\x00\x02\x08\x00\x03\x00\x03\x00\x03\x00\x01\x00\x02\x00\x00\x00\x06\x00";
+    let mut marks = [StepMark::blank(); 3];
+    let mut scratch = [0u8; 512];
+    let Err(fault) = run(
+        &mut TableKeeper::new(),
+        sheet,
+        &mut marks,
+        &mut [0; 1],
+        &mut scratch,
+    ) else {
+        return Err(Fail::new("there is room for one group only"));
+    };
+    assert_eq!(rt;
+        fault.refused(),
+        Refused {
+            number: 13,
+            place: 5,
+            step: 1,
+            layer: Layer::Runner,
+        }
     );
     Ok(())
 }
@@ -287,7 +330,15 @@ fn one_mark_too_few(rt: HostRuntime) -> Result<(), Fail> {
     ) else {
         return Err(Fail::new("there is room for two marks only"));
     };
-    assert!(rt; fault.number() == 13 && fault.layer() == Layer::Runner && fault.step == 2);
+    assert_eq!(rt;
+        fault.refused(),
+        Refused {
+            number: 13,
+            place: 11,
+            step: 2,
+            layer: Layer::Runner,
+        }
+    );
     assert!(rt;
         marks
             == [
@@ -337,13 +388,27 @@ fn calls_that_are_refused(rt: HostRuntime) -> Result<(), Fail> {
     assert!(rt; is_refused(keeper.bind(0, term, &mut scratch), Refusal::Marks));
     assert!(rt;
         is_refused(
-            keeper.join(listing(3, 3, &[2, 1]), &mut scratch),
+            keeper.join(
+                Listing {
+                    free: 3,
+                    linear: 3,
+                    groups: &[2, 1]
+                },
+                &mut scratch,
+            ),
             Refusal::Groups
         )
     );
     assert!(rt;
         is_refused(
-            keeper.join(listing(3, 1, &[1, 2]), &mut scratch),
+            keeper.join(
+                Listing {
+                    free: 3,
+                    linear: 1,
+                    groups: &[1, 2]
+                },
+                &mut scratch,
+            ),
             Refusal::Marks
         )
     );
