@@ -30,7 +30,7 @@ impl Tally {
         }
     }
 
-    /// Runs a sheet on both programs and compares what they print with the reference.
+    /// Runs a sheet on all programs and compares what they print with the reference.
     pub fn compare(&mut self, name: &str, sheet: &[u8]) -> io::Result<()> {
         self.sheets += 1;
         for i in 0..self.programs.len() {
