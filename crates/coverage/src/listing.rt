@@ -21,7 +21,8 @@ impl Groups<'_> {
         Ok(self.fill_core(list))
     }
 
-    // The same, where there is room. The groups are met in ascending order, so each goes behind the others.
+    // The same, where there is room; both requirements are what its one caller has just tested. The groups are met
+    // in ascending order, so each goes behind the others.
     fn fill_core(&self, list: &mut [u16]) -> usize
         requires few { self.now.positions < 13 }
         requires fits { CoreFits (TableGroup self.now.positions self.now.table.now) (length list.old) }

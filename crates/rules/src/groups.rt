@@ -1,5 +1,5 @@
 // The groups of a lent table. Which positions are free and which are linear is not asked here. Those of `coverage`
-// are of any number of positions, which its calls refuse; here a type says that there are few.
+// are of any number of positions, which two of its calls refuse; here a type says that there are few.
 ghost use Rattle.std.specs.Prelude.{◌<◌};
 
 #[derive(Clone, Copy)]

@@ -1,6 +1,6 @@
 // The rules on a lent table of at least 512 bytes, beside which the caller keeps the marks. The new table
-// takes the place of the old one; a refusal leaves it as it was, which each call says, since a contract is read
-// alone. Table and marks come one by one, from any caller: a `Bench` has facts in its type that a call tests first.
+// takes the place of the old one; a refusal leaves it as it was, which each call that writes and can refuse says,
+// since a contract is read alone. Table and marks come one by one, from any caller: a `Bench` has facts in its type that a call tests first.
 ghost use Rattle.std.specs.Prelude.{◌≡◌, ℕ, ◌/◌, ◌<◌, ◌++◌, length, Err, Decides};
 ghost use Rattle.domain.specs.Binding.{Bound};
 ghost use Rattle.domain.specs.Coverage.{Listed};

@@ -12,7 +12,7 @@ impl Groups<'_> {
     pub(crate) fn reach(self, mask: u16) -> u16
         ensures { (f l : ℕ) → Reach (told_of self.entry.positions self.entry.table.now f l) mask result }
     {
-        // the range of all masks, as in the loops that write them
+        // the range is written out as in the loops over it, where that is needed
         (1..1u16 << self.positions)
             .filter(|g| meets(*g, mask) && table::holds(self.table, *g))
             .fold(0, |reached, g| reached | g)

@@ -42,8 +42,8 @@ pub fn run<K: Keeper>(
     run_steps(keeper, sheet, &mut roll, groups, scratch)
 }
 
-// One runner for any keeper, over lists that its caller lends: keeper, sheet and lists go one by one from here on
-// to `serve`, as they came.
+// One runner for any keeper, over lists that its caller lends. Keeper, sheet and lists go one by one from here on
+// to `serve`: a struct of them would be taken apart again in each of three functions, which use different ones.
 fn run_steps<K: Keeper>(
     keeper: &mut K,
     sheet: &[u8],

@@ -46,8 +46,8 @@ impl TableKeeper {
     }
 }
 
-// Each call that changes something says that the capacity stays and, beside what the trait asks, that exactly the
-// groups of the rule are told: a contract is read alone.
+// Bind, join and forget each say that the capacity stays and, beside what the trait asks, that exactly the groups
+// of the rule are told: a contract is read alone.
 impl Keeper for TableKeeper {
     ghost told = { λ k. told_by k.held };
 

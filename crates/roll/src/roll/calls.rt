@@ -62,7 +62,7 @@ where
     T::Key: Ranked,
 {
     // Adds an entry in its place. An ascending roll stays ascending, and no entry in use is lost; an
-    // entry above all others goes behind them.
+    // entry above all others goes behind them. The memory stays the one lent, which no type can say of two states.
     pub fn add(&mut self, entry: T) -> Result<(), NotAdded>
         ensures adds { Adds T.Keyed.key T.Key.Ranked.rank entry self.old.used (slots self.old) (slots self.new) result }
         ensures counted { self.new.used ≡ used_after self.old.used result }

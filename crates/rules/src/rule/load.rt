@@ -18,7 +18,8 @@ pub(crate) fn put_groups(table: &mut [u8], groups: &[u16])
     }
 }
 
-// Makes the groups those of the new description: each position by itself.
+// Makes the groups those of the new description: each position by itself. It is called where both requirements were
+// tested; a `Bench` would want marks, which are made after this.
 pub(crate) fn put_singles(table: &mut [u8], positions: u8)
     requires few { positions < 13 }
     requires room { 512 ≤ length table.old }

@@ -13,6 +13,7 @@ use crate::groups::Groups;
 use crate::mask::all;
 use domain::mask::{minus, single, without};
 
+// The two masks alone: the number of positions stays, so no `Marks`.
 #[derive(Clone, Copy)]
 pub(crate) struct Kept {
     pub(crate) free: u16,
