@@ -12,8 +12,7 @@ use Rattle.std.proofs.lemmas.Iterator.Consumers.{YieldsList-from_first}
 use Rattle.std.proofs.lemmas.Bool.{cases_eq, cases_Bool, eq-eqb, eqb-true, false≢true}
 use Rattle.domain.specs.Coverage.{Listed}
 use Rattle.domain.specs.Coverage.Listed.{here, there}
-use Rattle.domain.specs.Masks.{Within}
-use Rattle.domain.specs.Requests.{contained}
+use Rattle.domain.specs.Masks.{Within, contained}
 use Rattle.domain.specs.Subsets.{down_from, subsets_from}
 use Rattle.domain.proofs.Bits.{and_within, within_and, within_le, in_first}
 use Rattle.domain.proofs.Loading.{at_listed, listed_at}

@@ -7,18 +7,18 @@ use Rattle.std.proofs.lemmas.Bool.Decides.{Decides-like}
 use Rattle.domain.specs.Coverage.{Listed}
 use Rattle.domain.specs.Coverage.Listed.{here, there}
 use Rattle.domain.specs.Masks.{In, Within}
-use Rattle.domain.specs.Filling.{Touching, Hull, Fills, Filled, FilledBoth}
-use Rattle.domain.specs.Groups.{Closure}
+use Rattle.domain.specs.Filling.{Hull, Fills, Filled, FilledBoth}
+use Rattle.domain.specs.Groups.{Closure, Shared}
 use Rattle.domain.specs.Requests.{held_by}
 use Rattle.domain.specs.Subsets.{subsets_from}
-use Rattle.domain.specs.Told.{Told, Group}
+use Rattle.domain.specs.Told.{Passes}
 use Rattle.domain.proofs.Bits.{in_or_not, in_right, in_left, in_either, in_both, in_first, in_second, in_lacking, lacking_in, same_mask, nothing_within, union_within, within_le, within_left, within_right, within_trans, or_comm, in_pos}
 use Rattle.domain.proofs.Deciding.{decides_meets}
 use Rattle.domain.proofs.Descending.{SomeSubset, listed_subset, subset_listed, listed_filter, filter_listed}
 use Rattle.domain.proofs.Joining.{fold_held}
 
-pub touching_pos : {G : ℕ → Type 0} {a b : ℕ} (g : ℕ) → Touching G a b g → 0 < g
-touching_pos g t = in_pos t.first.left
+pub shared_pos : {G : ℕ → Type 0} {a b : ℕ} (g : ℕ) → Shared G a b g → 0 < g
+shared_pos g s = in_pos s.left.left
 
 pub fills_by : {A : ℕ → Type 0} {base u g : ℕ} → A g → bit_or base g ≡ u → Fills A base u g
 fills_by {A} {base} {u} {g} told whole =
@@ -110,18 +110,18 @@ module _ (u : ℕ) where
       }
 
 -- the groups that meet both masks, as a test
-abbrev pub touches : Told → ℕ → ℕ → ℕ → Bool
-touches d a b s = not (eqb (bit_and s a) 0) && (not (eqb (bit_and s b) 0) && d.groups s)
+abbrev pub touches : (ℕ → Bool) → ℕ → ℕ → ℕ → Bool
+touches test a b s = not (eqb (bit_and s a) 0) && (not (eqb (bit_and s b) 0) && test s)
 
-pub touches_true : (d : Told) (a b s : ℕ) → touches d a b s ≡ true → Touching (Group d) a b s
-touches_true d a b s e =
+pub touches_true : (test : ℕ → Bool) (a b s : ℕ) → touches test a b s ≡ true → Shared (Passes test) a b s
+touches_true test a b s e =
     let l = and_parts (not (eqb (bit_and s a) 0)) _ e in
     let r = and_parts (not (eqb (bit_and s b) 0)) _ l.1 in
-    record { group = record { told = r.1 }; first = (decides_meets s a).0 l.0; second = (decides_meets s b).0 r.0 }
+    record { group = record { told = r.1 }; left = (decides_meets s a).0 l.0; right = (decides_meets s b).0 r.0 }
 
-pub true_touches : (d : Told) (a b s : ℕ) → Touching (Group d) a b s → touches d a b s ≡ true
-true_touches d a b s t =
-    rw ((decides_meets s a).1 t.first, (decides_meets s b).1 t.second) t.group.told
+pub true_touches : (test : ℕ → Bool) (a b s : ℕ) → Shared (Passes test) a b s → touches test a b s ≡ true
+true_touches test a b s t =
+    rw ((decides_meets s a).1 t.left, (decides_meets s b).1 t.right) t.group.told
 
 -- what is passed over adds nothing to a union
 fold_passed : (p : ℕ → Bool) (m : ℕ) (xs : List ℕ) → fold (λ m s. cond (p s) (bit_or m s) m) m xs ≡ fold (λ m s. bit_or m s) m (filter p xs)
@@ -136,20 +136,20 @@ fold_passed p m (x ∷ xs) = go (p x) (fold_passed p (bit_or m x) xs) (fold_pass
     go false with_x without_x = without_x
 
 -- one step of the union
-abbrev pub united : Told → ℕ → ℕ → ℕ → ℕ → ℕ
-united d a b m s = cond (touches d a b s) (bit_or m s) m
+abbrev pub united : (ℕ → Bool) → ℕ → ℕ → ℕ → ℕ → ℕ
+united test a b m s = cond (touches test a b s) (bit_or m s) m
 
 pub united_step :
-    (d : Told) (a b m s n : ℕ) → (Touching (Group d) a b s → n ≡ bit_or m s) → ((Touching (Group d) a b s → ⊥) → n ≡ m) → n ≡ united d a b m s
-united_step d a b m s n hit miss = go (touches d a b s) refl
+    (test : ℕ → Bool) (a b m s n : ℕ) → (Shared (Passes test) a b s → n ≡ bit_or m s) → ((Shared (Passes test) a b s → ⊥) → n ≡ m) → n ≡ united test a b m s
+united_step test a b m s n hit miss = go (touches test a b s) refl
   where
-    go : (t : Bool) → touches d a b s ≡ t → n ≡ cond t (bit_or m s) m
-    go true e = hit (touches_true d a b s e)
-    go false e = miss (λ t. absurd (false≢true (sym e ∙ true_touches d a b s t)))
+    go : (t : Bool) → touches test a b s ≡ t → n ≡ cond t (bit_or m s) m
+    go true e = hit (touches_true test a b s e)
+    go false e = miss (λ t. absurd (false≢true (sym e ∙ true_touches test a b s t)))
 
-pub hull_of : (d : Told) (a b u : ℕ) → Hull (Touching (Group d) a b) u (fold (united d a b) 0 (subsets_from u u))
-hull_of d a b u =
-    subst (Hull (Touching (Group d) a b) u) (sym (fold_passed (touches d a b) 0 (subsets_from u u) ∙ fold_held 0 (filter (touches d a b) (subsets_from u u))))
-    (hull_held u (filter (touches d a b) (subsets_from u u))
-    (λ g l. let k = listed_filter (touches d a b) (subsets_from u u) l in (touches_true d a b g k.1, (listed_subset u u k.0).1))
-    (λ g t w. filter_listed (touches d a b) (subsets_from u u) (subset_listed u u (touching_pos g t) (within_le w) w) (true_touches d a b g t)))
+pub hull_of : (test : ℕ → Bool) (a b u : ℕ) → Hull (Shared (Passes test) a b) u (fold (united test a b) 0 (subsets_from u u))
+hull_of test a b u =
+    subst (Hull (Shared (Passes test) a b) u) (sym (fold_passed (touches test a b) 0 (subsets_from u u) ∙ fold_held 0 (filter (touches test a b) (subsets_from u u))))
+    (hull_held u (filter (touches test a b) (subsets_from u u))
+    (λ g l. let k = listed_filter (touches test a b) (subsets_from u u) l in (touches_true test a b g k.1, (listed_subset u u k.0).1))
+    (λ g t w. filter_listed (touches test a b) (subsets_from u u) (subset_listed u u (shared_pos g t) (within_le w) w) (true_touches test a b g t)))

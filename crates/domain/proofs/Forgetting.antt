@@ -6,16 +6,18 @@ use lib.Pow.{pow-lt}
 use Rattle.std.proofs.lemmas.Bool.{eq-eqb, eqb-true}
 use Rattle.std.proofs.lemmas.Bool.Decides.{Decides-like}
 use Rattle.domain.specs.Forgetting.{Stripped, Renewed, Left, Supplied, Forgotten}
+use Rattle.domain.specs.Groups.{IsGround}
 use Rattle.domain.specs.Masks.{In, Within, Meets}
-use Rattle.domain.specs.Tables.{holds_bit, told_of}
-use Rattle.domain.specs.Told.{Told, Group, Ground, Lawful}
+use Rattle.domain.specs.Tables.{holds_bit, TableGroup, told_of}
+use Rattle.domain.specs.Told.{Told, Group, Lawful}
+use Rattle.domain.specs.declared.marks.Marks.{Marks}
 use Rattle.domain.proofs.Bits.{in_or_not, in_first, in_second, in_both, in_either, in_left, in_right, in_single, single_in, in_lacking, lacking_in, in_pos, in_below, below_lt, nothing_within, same_mask, within_le, one_position}
 use Rattle.domain.proofs.Laws.{group_of, of_group}
 use Rattle.domain.proofs.Descending.{SomeSubset}
 
 -- a mask apart from m is left exactly where some positions of m make it a group
-pub supplied_left : (d : Told) (m u : ℕ) → 0 < u → (Meets u m → ⊥) → Supplied (Group d) m u → Left d m u
-supplied_left d m u some apart s =
+pub supplied_left : (G : ℕ → Type 0) (m u : ℕ) → 0 < u → (Meets u m → ⊥) → Supplied G m u → Left G m u
+supplied_left G m u some apart s =
     inl
     (record {
       group = bit_or u s.part;
@@ -25,8 +27,8 @@ supplied_left d m u some apart s =
       not_empty = some;
     })
 
-pub left_supplied : (d : Told) (m u : ℕ) → (Meets u m → ⊥) → Left d m u → Supplied (Group d) m u
-left_supplied d m u apart (inl s) =
+pub left_supplied : (G : ℕ → Type 0) (m u : ℕ) → (Meets u m → ⊥) → Left G m u → Supplied G m u
+left_supplied G m u apart (inl s) =
     record {
       part = bit_and s.group m;
       inside = record { each = λ p i. in_second s.group m i };
@@ -45,7 +47,7 @@ left_supplied d m u apart (inl s) =
     whole =
         same_mask (record { each = λ p i. back p (in_either u (bit_and s.group m) i) })
         (record { each = λ p i. to p i (in_or_not p m) })
-left_supplied d m u apart (inr r) =
+left_supplied G m u apart (inr r) =
     absurd (apart (record { place = r.place; left = rw r.only (in_single r.place); right = r.forgotten }))
 
 -- a mask that meets m is left exactly where it is one position
@@ -58,8 +60,8 @@ single_ones p =
     let e : 1 * 2 ^ p + 0 ≡ 2 ^ p = omega arith in
     sym (ap ones e) ∙ ones_cat p 1 0 (pow_pos p) ∙ omega (arith, few_ones)
 
-pub decides_renewed : (d : Told) (m u : ℕ) → Meets u m → Decides (eqb (ones u) 1) (Left d m u)
-decides_renewed d m u meet = (λ e. inr (single (one_position u (eqb-true _ 1 e))), λ l. one l)
+pub decides_renewed : (G : ℕ → Type 0) (m u : ℕ) → Meets u m → Decides (eqb (ones u) 1) (Left G m u)
+decides_renewed G m u meet = (λ e. inr (single (one_position u (eqb-true _ 1 e))), λ l. one l)
   where
     single : (p : ℕ) × (u ≡ 2 ^ p) → Renewed m u
     single s =
@@ -69,7 +71,7 @@ decides_renewed d m u meet = (λ e. inr (single (one_position u (eqb-true _ 1 e)
           only = s.1;
         }
 
-    one : Left d m u → eqb (ones u) 1 ≡ true
+    one : Left G m u → eqb (ones u) 1 ≡ true
     one (inl s) = absurd ((s.only meet.place meet.left).1 meet.right)
     one (inr r) = rw r.only (eq-eqb _ 1 (single_ones r.place))
 
@@ -87,8 +89,8 @@ pub supplied_alone : (G : ℕ → Type 0) (m u : ℕ) → G u → Supplied G m u
 supplied_alone G m u g = record { part = 0; inside = nothing_within m; told = rw (or_zero_r u) g }
 
 -- what is left of u depends only on the groups around it
-pub left_local : (d e : Told) (m u : ℕ) → ((g : ℕ) → u ≤ g → Group d g → Group e g) → Left d m u → Left e m u
-left_local d e m u same (inl s) =
+pub left_local : (G H : ℕ → Type 0) (m u : ℕ) → ((g : ℕ) → u ≤ g → G g → H g) → Left G m u → Left H m u
+left_local G H m u same (inl s) =
     inl
     (record {
       group = s.group;
@@ -97,30 +99,30 @@ left_local d e m u same (inl s) =
       only = s.only;
       not_empty = s.not_empty;
     })
-left_local d e m u same (inr r) = inr r
+left_local G H m u same (inr r) = inr r
 
 -- a forget keeps the groups in range
-pub left_range : (n : ℕ) (d : Told) (m g : ℕ) → ((h : ℕ) → Group d h → h < 2 ^ n) → m < 2 ^ n → Left d m g → (0 < g) × (g < 2 ^ n)
-left_range n d m g range small (inl s) =
+pub left_range : (n : ℕ) (G : ℕ → Type 0) (m g : ℕ) → ((h : ℕ) → G h → h < 2 ^ n) → m < 2 ^ n → Left G m g → (0 < g) × (g < 2 ^ n)
+left_range n G m g range small (inl s) =
     (s.not_empty, below_lt g n (λ p i. in_below n (s.only p i).0 (range s.group s.told)))
-left_range n d m g range small (inr r) =
+left_range n G m g range small (inr r) =
     (rw r.only (pow_pos r.place), rw r.only (pow-lt (in_below n r.forgotten small)))
 
 pub forgotten_of :
-    (n : ℕ) (old new : List ℕ) (f l m : ℕ) → m < 2 ^ n
-    → ((u : ℕ) → 0 < u → u < 2 ^ n → Decides (holds_bit new u) (Left (told_of n old f l) m u))
-    → Forgotten (told_of n old f l) m (told_of n new (bit_or f m) (bit_or l m))
-forgotten_of n old new f l m small bits =
+    (n : ℕ) (old new : List ℕ) (k : Marks) (m : ℕ) → m < 2 ^ n
+    → ((u : ℕ) → 0 < u → u < 2 ^ n → Decides (holds_bit new u) (Left (TableGroup n old) m u))
+    → Forgotten (told_of n old k) m (told_of n new (record { free = bit_or k.free m; linear = bit_or k.linear m }))
+forgotten_of n old new k m small bits =
     record {
       positions = refl;
-      groups_made = λ g k.
-          let r = left_range n (told_of n old f l) m g (λ h t. (of_group n old f l h t).1) small k in
-          group_of n new _ _ g r.0 r.1 ((bits g r.0 r.1).1 k);
-      groups_only = λ g k. let r = of_group n new (bit_or f m) (bit_or l m) g k in (bits g r.0 r.1).0 r.2;
-      free_made = λ p i. united f i;
-      free_only = λ p i. in_either f m i;
-      linear_made = λ p i. united l i;
-      linear_only = λ p i. in_either l m i;
+      groups_made = λ g l.
+          let r = left_range n (TableGroup n old) m g (λ h t. (of_group n old h t).1) small l in
+          group_of n new g r.0 r.1 ((bits g r.0 r.1).1 l);
+      groups_only = λ g l. let r = of_group n new g l in (bits g r.0 r.1).0 r.2;
+      free_made = λ p i. united k.free i;
+      free_only = λ p i. in_either k.free m i;
+      linear_made = λ p i. united k.linear i;
+      linear_only = λ p i. in_either k.linear m i;
     }
   where
     united : {p : ℕ} (a : ℕ) → In p a ⊎ In p m → In p (bit_or a m)
@@ -128,7 +130,7 @@ forgotten_of n old new f l m small bits =
     united a (inr i) = in_right a i
 
 -- what a group leaves without m, where it keeps a position
-pub stripped : {d : Told} {m g p : ℕ} → Group d g → In p g → (In p m → ⊥) → Stripped d m (bit_xor g (bit_and g m))
+pub stripped : {G : ℕ → Type 0} {m g p : ℕ} → G g → In p g → (In p m → ⊥) → Stripped G m (bit_xor g (bit_and g m))
 stripped {m = m} {g = g} t i n =
     record {
       group = g;
@@ -143,25 +145,27 @@ forget_lawful {d} {e} {m} l small f =
     record {
       some_positions = rw f.positions l.some_positions;
       few_positions = rw f.positions l.few_positions;
-      in_range = λ g t. rw f.positions (left_range d.n d m g (λ h k. (l.in_range h k).1) small (f.groups_only g t));
-      linear_in_range =
-          rw f.positions
-          (below_lt e.linear d.n
-          (λ p i. elim (f.linear_only p i) [ inl h ↦ in_below d.n h l.linear_in_range | inr h ↦ in_below d.n h small ]));
-      free_is_linear =
-          λ p i.
-          f.linear_made p (elim (f.free_only p i) [ inl h ↦ inl (l.free_is_linear p h) | inr h ↦ inr h ]);
-      ground_is_linear = λ p g. f.linear_made p (inl (l.ground_is_linear p (was g)));
-      free_is_not_ground =
-          λ p i g.
-          elim (f.free_only p i)
-          [ inl h ↦ l.free_is_not_ground p h (was g) | inr h ↦ not_forgotten g h ];
+      in_range = λ g t. rw f.positions (left_range d.n (Group d) m g (λ h k. (l.in_range h k).1) small (f.groups_only g t));
+      marks = record {
+        linear_in_range =
+            rw f.positions
+            (below_lt e.marks.linear d.n
+            (λ p i. elim (f.linear_only p i) [ inl h ↦ in_below d.n h l.marks.linear_in_range | inr h ↦ in_below d.n h small ]));
+        free_is_linear =
+            λ p i.
+            f.linear_made p (elim (f.free_only p i) [ inl h ↦ inl (l.marks.free_is_linear p h) | inr h ↦ inr h ]);
+        ground_is_linear = λ p g. f.linear_made p (inl (l.marks.ground_is_linear p (was g)));
+        free_is_not_ground =
+            λ p i g.
+            elim (f.free_only p i)
+            [ inl h ↦ l.marks.free_is_not_ground p h (was g) | inr h ↦ not_forgotten g h ];
+      };
     }
   where
-    not_forgotten : {p : ℕ} → Ground e p → In p m → ⊥
+    not_forgotten : {p : ℕ} → IsGround e.n (Group e) p → In p m → ⊥
     not_forgotten {p} g i = g.none (2 ^ p) (f.groups_made (2 ^ p) (inr (record { place = p; forgotten = i; only = refl }))) (in_single p)
 
-    was : {p : ℕ} → Ground e p → Ground d p
+    was : {p : ℕ} → IsGround e.n (Group e) p → IsGround d.n (Group d) p
     was {p} g = record { position = rw f.positions at g.position; none = λ h t i. none h t i (in_or_not p m) }
       where
         none : (h : ℕ) → Group d h → In p h → In p m ⊎ (In p m → ⊥) → ⊥

@@ -13,5 +13,5 @@ pub mod Joining
 pub mod Forgetting
 pub mod Written
 pub mod Made
-pub mod RuleLaws
+pub mod ChangeLaws
 pub mod Mapped

@@ -3,9 +3,9 @@ use Rattle.std.proofs.Common.{◌≡◌, ℕ, zero, suc, ◌+◌, ◌/◌, ◌^�
 use Rattle.std.proofs.lemmas.Bool.{cases_eq, cases_lt}
 use Rattle.domain.specs.Coverage.{Listed}
 use Rattle.domain.specs.Coverage.Listed.{here, there}
-use Rattle.domain.specs.Tables.{holds_bit, told_with}
-use Rattle.domain.specs.Told.{Group}
-use Rattle.domain.specs.declared.marks.Marks.{Marks}
+use Rattle.domain.specs.Requests.{bytes_for}
+use Rattle.domain.specs.Tables.{holds_bit, TableGroup}
+use Rattle.domain.specs.declared.limits.TheConstants.{MOST_POSITIONS}
 use Rattle.domain.proofs.Laws.{group_of, of_group}
 use Rattle.domain.proofs.Tables.{room_for}
 
@@ -62,16 +62,16 @@ loaded_put gs s t i all loaded g h l =
 
 -- a table loaded with masks in range tells the groups of the list
 pub loaded_told :
-    (m : Marks) (t gs : List ℕ) → m.positions < 13 → 512 ≤ length t
+    (n : ℕ) (t gs : List ℕ) → n ≤ MOST_POSITIONS → bytes_for n ≤ length t
     → ((g : ℕ) → g / 8 < length t → Decides (holds_bit t g) (Listed g gs))
-    → ((g : ℕ) → Listed g gs → (0 < g) × (g < 2 ^ m.positions))
-    → (g : ℕ) → (Group (told_with m t) g → Listed g gs) × (Listed g gs → Group (told_with m t) g)
-loaded_told m t gs few room bits range g = (
+    → ((g : ℕ) → Listed g gs → (0 < g) × (g < 2 ^ n))
+    → (g : ℕ) → (TableGroup n t g → Listed g gs) × (Listed g gs → TableGroup n t g)
+loaded_told n t gs few room bits range g = (
   λ k.
-      let r = of_group m.positions t m.free m.linear g k in
-      (bits g (room_for m.positions g (length t) few r.1 room)).0 r.2,
+      let r = of_group n t g k in
+      (bits g (room_for n g (length t) few r.1 room)).0 r.2,
   λ l.
       let r = range g l in
-      group_of m.positions t m.free m.linear g r.0 r.1
-      ((bits g (room_for m.positions g (length t) few r.1 room)).1 l),
+      group_of n t g r.0 r.1
+      ((bits g (room_for n g (length t) few r.1 room)).1 l),
 )

@@ -1,15 +1,14 @@
 -- The groups that a bind makes: what lies in them, and the test of each case.
-use Rattle.std.proofs.Common.{ℕ, ◌^◌, sym, subst, inl, inr}
+use Rattle.std.proofs.Common.{ℕ, sym, subst, inl, inr}
 use Rattle.domain.specs.Masks.{In, Meets}
-use Rattle.domain.specs.Groups.{XGroup, TGroup, Shared, Paired, Closure, Extended}
+use Rattle.domain.specs.Groups.{Side, Shared, Paired, Closure, Extended}
 use Rattle.domain.specs.Groups.Closure.{one, more}
 use Rattle.domain.specs.Groups.Extended.{alone, joined}
 use Rattle.domain.specs.Binding.{Made, NewGroup}
 use Rattle.domain.specs.Binding.NewGroup.{rest, made}
-use Rattle.domain.specs.Filling.{Touching}
 use Rattle.domain.specs.declared.case.Case.{Case}
 use Rattle.domain.specs.declared.case.Case.TheVariants.{Free, BothLinear, PositionLinear, TermLinear, Neither}
-use Rattle.domain.proofs.Bits.{in_either, within_self, meets_more, meets_single, single_meets}
+use Rattle.domain.proofs.Bits.{in_either, within_self, meets_more}
 use Rattle.domain.proofs.Hull.{Sub, Inside, inside_more, closure_some, pair_left, pair_right}
 
 -- where a position of a united group comes from
@@ -44,76 +43,51 @@ extended_some : {A S : ℕ → Type 0} (e : ℕ) → Extended A S e → Inside A
 extended_some e (alone a) = record { group = e; told = a; inside = within_self e }
 extended_some e (joined q) = record { group = q.left; told = q.in_left; inside = pair_left q }
 
-module _ (G : ℕ → Type 0) (x v : ℕ) where
-  -- the three kinds of groups
-  x_sub : Sub (XGroup G x) G
-  x_sub g m = m.group
+module _ (G : ℕ → Type 0) (a b : ℕ) where
+  -- the groups that are shared are of both sides
+  pub shared_left : Sub (Shared G a b) (Side G a)
+  shared_left g m = record { group = m.group; left = m.left; right = m.left }
 
-  t_sub : Sub (TGroup G v) G
-  t_sub g m = m.group
+  pub shared_right : Sub (Shared G a b) (Side G b)
+  shared_right g m = record { group = m.group; left = m.right; right = m.right }
 
-  s_sub : Sub (Shared G x v) G
-  s_sub g m = m.group
-
-  pub shared_x : Sub (Shared G x v) (XGroup G x)
-  shared_x g m = record { group = m.group; holds = m.holds }
-
-  pub shared_t : Sub (Shared G x v) (TGroup G v)
-  shared_t g m = record { group = m.group; meets = m.meets }
+  side_sub : (c d : ℕ) → Sub (Shared G c d) G
+  side_sub c d g m = m.group
 
   single_from : {A : ℕ → Type 0} {p : ℕ} → Sub A G → (e : ℕ) → A e → In p e → From G p
-  single_from sub e a i = record { group = e; told = sub e a; holds = i }
+  single_from sub e m i = record { group = e; told = sub e m; holds = i }
 
   closed_from : {A : ℕ → Type 0} {p : ℕ} → Sub A G → (e : ℕ) → Closure A e → In p e → From G p
   closed_from sub e c i = from_like sub (closure_from c i)
 
-  pub made_from : (c : Case) {u p : ℕ} → Made G x v c u → In p u → From G p
-  made_from Free m i = pair_from (single_from x_sub) (single_from t_sub) m i
-  made_from BothLinear m i = pair_from (extended_from x_sub s_sub) (extended_from t_sub s_sub) m i
-  made_from PositionLinear m i = pair_from (closed_from x_sub) (extended_from t_sub s_sub) m i
-  made_from TermLinear m i = pair_from (extended_from x_sub s_sub) (closed_from t_sub) m i
-  made_from Neither m i = pair_from (closed_from x_sub) (closed_from t_sub) m i
+  pub made_from : (c : Case) {u p : ℕ} → Made G a b c u → In p u → From G p
+  made_from Free m i = pair_from (single_from (side_sub a a)) (single_from (side_sub b b)) m i
+  made_from BothLinear m i = pair_from (extended_from (side_sub a a) (side_sub a b)) (extended_from (side_sub b b) (side_sub a b)) m i
+  made_from PositionLinear m i = pair_from (closed_from (side_sub a a)) (extended_from (side_sub b b) (side_sub a b)) m i
+  made_from TermLinear m i = pair_from (extended_from (side_sub a a) (side_sub a b)) (closed_from (side_sub b b)) m i
+  made_from Neither m i = pair_from (closed_from (side_sub a a)) (closed_from (side_sub b b)) m i
 
-  -- an x-group and a t-group lie in every group that is made
-  pub made_x : (c : Case) {u : ℕ} → Made G x v c u → Inside (XGroup G x) u
-  made_x Free m = record { group = m.left; told = m.in_left; inside = pair_left m }
-  made_x BothLinear m = inside_more (extended_some m.left m.in_left) (pair_left m)
-  made_x PositionLinear m = inside_more (closure_some m.in_left) (pair_left m)
-  made_x TermLinear m = inside_more (extended_some m.left m.in_left) (pair_left m)
-  made_x Neither m = inside_more (closure_some m.in_left) (pair_left m)
+  -- a group of each side lies in every group that is made
+  pub made_left : (c : Case) {u : ℕ} → Made G a b c u → Inside (Side G a) u
+  made_left Free m = record { group = m.left; told = m.in_left; inside = pair_left m }
+  made_left BothLinear m = inside_more (extended_some m.left m.in_left) (pair_left m)
+  made_left PositionLinear m = inside_more (closure_some m.in_left) (pair_left m)
+  made_left TermLinear m = inside_more (extended_some m.left m.in_left) (pair_left m)
+  made_left Neither m = inside_more (closure_some m.in_left) (pair_left m)
 
-  pub made_t : (c : Case) {u : ℕ} → Made G x v c u → Inside (TGroup G v) u
-  made_t Free m = record { group = m.right; told = m.in_right; inside = pair_right m }
-  made_t BothLinear m = inside_more (extended_some m.right m.in_right) (pair_right m)
-  made_t PositionLinear m = inside_more (extended_some m.right m.in_right) (pair_right m)
-  made_t TermLinear m = inside_more (closure_some m.in_right) (pair_right m)
-  made_t Neither m = inside_more (closure_some m.in_right) (pair_right m)
+  pub made_right : (c : Case) {u : ℕ} → Made G a b c u → Inside (Side G b) u
+  made_right Free m = record { group = m.right; told = m.in_right; inside = pair_right m }
+  made_right BothLinear m = inside_more (extended_some m.right m.in_right) (pair_right m)
+  made_right PositionLinear m = inside_more (extended_some m.right m.in_right) (pair_right m)
+  made_right TermLinear m = inside_more (closure_some m.in_right) (pair_right m)
+  made_right Neither m = inside_more (closure_some m.in_right) (pair_right m)
 
-  pub made_holds : (c : Case) {u : ℕ} → Made G x v c u → In x u
-  made_holds c m = let s = made_x c m in s.inside.each x s.told.holds
+  pub made_meets_left : (c : Case) {u : ℕ} → Made G a b c u → Meets u a
+  made_meets_left c m = let s = made_left c m in meets_more s.told.left s.inside
 
-  pub made_meets : (c : Case) {u : ℕ} → Made G x v c u → Meets u v
-  made_meets c m = let s = made_t c m in meets_more s.told.meets s.inside
+  pub made_meets_right : (c : Case) {u : ℕ} → Made G a b c u → Meets u b
+  made_meets_right c m = let s = made_right c m in meets_more s.told.left s.inside
 
-  pub new_from : (c : Case) {u p : ℕ} → NewGroup G x v c u → In p u → From G p
+  pub new_from : (c : Case) {u p : ℕ} → NewGroup G a b c u → In p u → From G p
   new_from c (rest r) i = record { group = _; told = r.group; holds = i }
   new_from c (made m) i = made_from c m i
-
-  -- a group of the masks is one of the bind
-  pub x_touching : Sub (XGroup G x) (Touching G (2 ^ x) (2 ^ x))
-  x_touching g m = record { group = m.group; first = meets_single m.holds; second = meets_single m.holds }
-
-  pub touching_x : Sub (Touching G (2 ^ x) (2 ^ x)) (XGroup G x)
-  touching_x g m = record { group = m.group; holds = single_meets m.first }
-
-  pub t_touching : Sub (TGroup G v) (Touching G v v)
-  t_touching g m = record { group = m.group; first = m.meets; second = m.meets }
-
-  pub touching_t : Sub (Touching G v v) (TGroup G v)
-  touching_t g m = record { group = m.group; meets = m.first }
-
-  pub shared_touching : Sub (Shared G x v) (Touching G (2 ^ x) v)
-  shared_touching g m = record { group = m.group; first = meets_single m.holds; second = m.meets }
-
-  pub touching_shared : Sub (Touching G (2 ^ x) v) (Shared G x v)
-  touching_shared g m = record { group = m.group; holds = single_meets m.first; meets = m.second }

@@ -7,6 +7,7 @@ use Rattle.std.proofs.lemmas.Bool.{cases_eq, cases_lt, ne_eqb, false≢true}
 use Rattle.domain.specs.Opening.{New, Single}
 use Rattle.domain.specs.Tables.{holds_bit, told_of}
 use Rattle.domain.specs.Told.{Told, Lawful}
+use Rattle.domain.specs.declared.limits.TheConstants.{MOST_POSITIONS}
 use Rattle.domain.proofs.Bits.{in_all, all_in, in_single, below_lt}
 use Rattle.domain.proofs.Laws.{group_of, of_group}
 use Rattle.domain.proofs.Tables.{past_bit}
@@ -50,13 +51,13 @@ pub single_range : (n : ℕ) {g : ℕ} → Single n g → (0 < g) × (g < 2 ^ n)
 single_range n {g} s =
     (omega (arith, s.only, pow_pos s.place), omega (arith, s.only, pow-lt s.position))
 
-pub new_of_lem : (n : ℕ) (t : List ℕ) → Singles t n → (m : ℕ) → m ≡ 2 ^ n - 1 → New n (told_of n t m m)
+pub new_of_lem : (n : ℕ) (t : List ℕ) → Singles t n → (m : ℕ) → m ≡ 2 ^ n - 1 → New n (told_of n t (record { free = m; linear = m }))
 new_of_lem n t singles m whole =
     rw whole
     (record {
       positions = refl;
-      groups_made = λ g s. group_of n t _ _ g (single_range n s).0 (single_range n s).1 ((singles g).1 s);
-      groups_only = λ g m. (singles g).0 (of_group n t _ _ g m).2;
+      groups_made = λ g s. group_of n t g (single_range n s).0 (single_range n s).1 ((singles g).1 s);
+      groups_only = λ g m. (singles g).0 (of_group n t g m).2;
       free_made = λ p h. in_all p n h;
       free_only = λ p i. all_in p n i;
       linear_made = λ p h. in_all p n h;
@@ -64,17 +65,19 @@ new_of_lem n t singles m whole =
     })
 
 -- a new description keeps the rules
-pub new_lawful : (n : ℕ) (e : Told) → 0 < n → n < 13 → New n e → Lawful e
-new_lawful n e some few new =
+pub new_lawful : {n : ℕ} {e : Told} → 0 < n → n ≤ MOST_POSITIONS → New n e → Lawful e
+new_lawful {n} {e} some few new =
     record {
       some_positions = omega (arith, same);
-      few_positions = omega (arith, same);
+      few_positions = rw same few;
       in_range = λ g m. rw same (single_range n (new.groups_only g m));
-      linear_in_range = rw same (below_lt e.linear n new.linear_only);
-      free_is_linear = λ p i. new.linear_made p (new.free_only p i);
-      ground_is_linear = λ p g. new.linear_made p (omega (arith, same, g.position));
-      free_is_not_ground = λ p i g.
-          g.none (2 ^ p) (new.groups_made (2 ^ p) (record { place = p; position = new.free_only p i; only = refl })) (in_single p);
+      marks = record {
+        linear_in_range = rw same (below_lt e.marks.linear n new.linear_only);
+        free_is_linear = λ p i. new.linear_made p (new.free_only p i);
+        ground_is_linear = λ p g. new.linear_made p (omega (arith, same, g.position));
+        free_is_not_ground = λ p i g.
+            g.none (2 ^ p) (new.groups_made (2 ^ p) (record { place = p; position = new.free_only p i; only = refl })) (in_single p);
+      };
     }
   where
     same : e.n ≡ n

@@ -1,13 +1,14 @@
 -- One bit of a byte, and of a table of bytes.
-use Rattle.std.proofs.Common.{◌≡◌, ℕ, ◌+◌, ◌/◌, ◌%◌, ◌^◌, ◌<◌, ◌≤◌, Bool, true, false, cond, eqb, ◌≢◌, ◌⊎◌, List, length, get_or, set, Decides, ap, ◌∙◌, inl, inr, arith, pow_pos, pow_mono}
+use Rattle.std.proofs.Common.{◌≡◌, ℕ, ◌+◌, ◌/◌, ◌%◌, ◌^◌, ◌<◌, ◌≤◌, Bool, true, false, ◌&&◌, eqb, ◌≢◌, ◌⊎◌, List, length, get_or, set, Decides, ap, ◌∙◌, inl, inr, arith, pow_pos, pow_mono}
 use native.Mathlib.Nat.{div-eq_of_lt}
 use lib.Bits.{bit_and, bit_or, bit_xor, and_mask}
 use Rattle.std.proofs.lemmas.List.{get_or-set_same, get_or-set_other, get_or_past}
 use Rattle.std.proofs.lemmas.Bool.Decides.{Decides-at}
 use Rattle.std.proofs.lemmas.Bool.{eq-eqb, ne_eqb, cases_eq}
 use Rattle.domain.specs.Masks.{In}
-use Rattle.domain.specs.Tables.{holds_bit, in_range, told_of}
-use Rattle.domain.specs.Told.{Group}
+use Rattle.domain.specs.Requests.{bytes_for}
+use Rattle.domain.specs.Tables.{holds_bit, in_range, TableGroup}
+use Rattle.domain.specs.declared.limits.TheConstants.{MOST_POSITIONS}
 use Rattle.domain.proofs.Bits.{in_or_not, in_left, in_right, in_either, in_single, single_in, in_lacking, lacking_in}
 
 -- digits agree where one is 1 exactly when the other is
@@ -102,9 +103,9 @@ written_up_more P old s t k on before here at others =
     go g some h (inr ne) = Decides-at (holds_bit t g) (holds_bit s g) (others g ne) (before.done g some (omega (arith, ne)))
 
 -- a mask of so few positions has its bit in the table
-pub room_for : (n g k : ℕ) → n < 13 → g < 2 ^ n → 512 ≤ k → g / 8 < k
-room_for n g k few below room = let h : n ≤ 12 = omega arith in omega (arith, pow_mono h)
+pub room_for : (n g k : ℕ) → n ≤ MOST_POSITIONS → g < 2 ^ n → bytes_for n ≤ k → g / 8 < k
+room_for n g k few below room = let h : n ≤ 12 = few in omega (arith, pow_mono h)
 
--- a mask whose bit two tables share is a group of the one where it is one of the other; the masks play no part
-pub same_groups : {n f l f' l' : ℕ} (s t : List ℕ) (g : ℕ) → holds_bit t g ≡ holds_bit s g → Group (told_of n s f l) g → Group (told_of n t f' l') g
-same_groups {n} s t g e k = record { told = ap (λ b. cond (in_range n g) b false) e ∙ k.told }
+-- a mask whose bit two tables share is a group of the one where it is one of the other
+pub same_groups : (n : ℕ) (s t : List ℕ) (g : ℕ) → holds_bit t g ≡ holds_bit s g → TableGroup n s g → TableGroup n t g
+same_groups n s t g e k = record { told = ap (λ b. in_range n g && b) e ∙ k.told }

@@ -18,11 +18,10 @@ pub record SameCover (G H : ℕ → Type 0) : Type 0 where
   pub to : (w p q : ℕ) → Covers G w p q → Covers H w p q
   pub from : (w p q : ℕ) → Covers H w p q → Covers G w p q
 
--- Two descriptions are alike when their positions and masks agree and they cover the same pairs.
+-- Two descriptions are alike when their positions and marks agree and they cover the same pairs.
 pub record Alike (d e : Told) : Type 0 where
   pub positions : d.n ≡ e.n
-  pub free : d.free ≡ e.free
-  pub linear : d.linear ≡ e.linear
+  pub marks : d.marks ≡ e.marks
   pub cover : SameCover (Group d) (Group e)
 
 -- A core group: the groups strictly inside it leave some pair of its positions uncovered.

@@ -1,17 +1,7 @@
 -- How groups inside a mask fill it up.
 use Rattle.std.specs.Prelude.{◌≡◌, ℕ, ◌<◌, bit_or}
-use Rattle.domain.specs.Masks.{Within, Meets}
+use Rattle.domain.specs.Masks.{Within}
 use Rattle.domain.specs.Groups.{Closure}
-
--- the groups of G that meet both masks
-pub record Touching (G : ℕ → Type 0) (a b g : ℕ) : Type 0 where
-  pub group : G g
-  pub first : Meets g a
-  pub second : Meets g b
-
--- those that meet one
-abbrev pub Side : (ℕ → Type 0) → ℕ → ℕ → Type 0
-Side G a = Touching G a a
 
 -- h is the union of all groups of A inside u, and 0 where there are none
 pub record Hull (A : ℕ → Type 0) (u h : ℕ) : Type 0 where

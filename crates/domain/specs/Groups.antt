@@ -1,28 +1,40 @@
 -- Sets of groups. A group is a mask that is not empty; a set of groups is a predicate on masks.
-use Rattle.std.specs.Prelude.{◌≡◌, ℕ, bit_or}
+use Rattle.std.specs.Prelude.{◌≡◌, ℕ, ◌<◌, bit_or}
 use Rattle.domain.specs.Masks.{In, Meets}
 
--- the groups of G that hold the position x
-pub record XGroup (G : ℕ → Type 0) (x g : ℕ) : Type 0 where
-  pub group : G g
-  pub holds : In x g
+-- positions p and q share: one group of G holds both
+pub record Share (G : ℕ → Type 0) (p q : ℕ) : Type 0 where
+  pub group : ℕ
+  pub told : G group
+  pub left : In p group
+  pub right : In q group
 
--- the groups of G that hold some position of the mask v
-pub record TGroup (G : ℕ → Type 0) (v g : ℕ) : Type 0 where
-  pub group : G g
-  pub meets : Meets g v
+-- a position of n is ground when no group of G holds it
+pub record IsGround (n : ℕ) (G : ℕ → Type 0) (p : ℕ) : Type 0 where
+  pub position : p < n
+  pub none : (g : ℕ) → G g → In p g → ⊥
 
--- those that are both
-pub record Shared (G : ℕ → Type 0) (x v g : ℕ) : Type 0 where
+-- the groups of G that meet both masks
+pub record Shared (G : ℕ → Type 0) (a b g : ℕ) : Type 0 where
   pub group : G g
-  pub holds : In x g
-  pub meets : Meets g v
+  pub left : Meets g a
+  pub right : Meets g b
 
--- those that are neither
-pub record Rest (G : ℕ → Type 0) (x v g : ℕ) : Type 0 where
+-- one side of a binding: the groups of G that meet its mask
+abbrev pub Side : (ℕ → Type 0) → ℕ → ℕ → Type 0
+Side G a = Shared G a a
+
+-- the rest: those that meet neither mask
+pub record Apart (G : ℕ → Type 0) (a b g : ℕ) : Type 0 where
   pub group : G g
-  pub without : In x g → ⊥
-  pub apart : Meets g v → ⊥
+  pub left : Meets g a → ⊥
+  pub right : Meets g b → ⊥
+
+-- p lies in a group of a side
+pub record Near (G : ℕ → Type 0) (a p : ℕ) : Type 0 where
+  pub group : ℕ
+  pub told : Side G a group
+  pub holds : In p group
 
 -- every union of one group of A and one of B
 pub record Paired (A B : ℕ → Type 0) (u : ℕ) : Type 0 where

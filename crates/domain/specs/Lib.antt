@@ -1,15 +1,16 @@
 pub mod Masks
 pub mod Groups
+pub mod Terms
 pub mod Told
 pub mod Opening
 pub mod Binding
 pub mod Joining
 pub mod Forgetting
+pub mod Changes
 pub mod Lists
 pub mod Coverage
 pub mod Tables
 pub mod Refusals
 pub mod Requests
-pub mod Leaving
 pub mod Filling
 pub mod Subsets

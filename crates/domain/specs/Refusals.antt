@@ -3,7 +3,7 @@ use Rattle.std.specs.Prelude.{ℕ, Bool, true, false, List, [], ◌∷◌, Some,
 use Rattle.domain.specs.declared.refusal.Layer.{Layer}
 use Rattle.domain.specs.declared.refusal.Layer.TheVariants.{Reader, Runner, Keeper}
 use Rattle.domain.specs.declared.refusal.Refusal.{Refusal}
-use Rattle.domain.specs.declared.refusal.Refusal.TheVariants.{Truncated, Kind, Length, Order, Count, Position, Itself, Depth, Groups, Marks, Letter, Capacity, Room}
+use Rattle.domain.specs.declared.refusal.Refusal.TheVariants.{Truncated, Kind, Length, Order, Count, Position, Itself, Depth, Groups, Masks, Letter, Capacity, Room}
 
 abbrev pub number_of : Refusal → ℕ
 number_of Truncated = 1
@@ -15,7 +15,7 @@ number_of Position = 6
 number_of Itself = 7
 number_of Depth = 8
 number_of Groups = 9
-number_of Marks = 10
+number_of Masks = 10
 number_of Letter = 11
 number_of Capacity = 12
 number_of Room = 13
@@ -30,7 +30,7 @@ layer_of Position = None
 layer_of Itself = Some Keeper
 layer_of Depth = Some Reader
 layer_of Groups = Some Keeper
-layer_of Marks = Some Keeper
+layer_of Masks = Some Keeper
 layer_of Letter = Some Reader
 layer_of Capacity = Some Keeper
 layer_of Room = None

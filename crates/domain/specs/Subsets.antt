@@ -1,6 +1,6 @@
 -- The subsets of a mask, in the order in which they are walked.
 use Rattle.std.specs.Prelude.{ℕ, zero, suc, List, [], ◌∷◌, filter}
-use Rattle.domain.specs.Requests.{contained}
+use Rattle.domain.specs.Masks.{contained}
 
 -- the masks from s downwards, without 0
 unfoldable pub down_from : ℕ → List ℕ

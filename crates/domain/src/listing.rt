@@ -1,10 +1,12 @@
-// A description as it is handed over: its two masks, and a list of its groups.
-#[derive(Clone, Copy)]
-pub struct Listing<'a> {
-    // the mask of the free positions
-    pub free: u16,
-    // the mask of the linear ones
-    pub linear: u16,
-    // the groups, ascending
-    pub groups: &'a [u16],
+//! A description as it is handed over.
+use crate::marks::Marks;
+
+/// The marks and the groups of a description. `G` carries the groups, ascending: a slice that is lent, or a
+/// place on a sheet.
+#[derive(Clone, Copy, PartialEq, Eq, Debug)]
+pub struct Listing<G> {
+    /// what is known of the positions
+    pub marks: Marks,
+    /// what carries the groups
+    pub groups: G,
 }

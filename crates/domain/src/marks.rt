@@ -1,37 +1,30 @@
-// What is known of a description beside its table of groups.
+//! The marks of positions.
+ghost use Rattle.std.specs.Prelude.{◌↔◌, IsTrue};
 ghost use Rattle.domain.specs.Masks.{In};
-ghost use Rattle.domain.specs.Refusals.{first_of};
-ghost use Rattle.domain.specs.Requests.{ask_tests, Gives};
-ghost use Rattle.std.specs.Prelude.{Decides};
 
-use crate::count::check_position;
 use crate::mask::has;
-use crate::refusal::Refusal;
 
+/// What is known of each position beside the groups: which are free, and which linear.
 #[derive(Clone, Copy, PartialEq, Eq, Debug)]
 pub struct Marks {
-    // the number of positions
-    pub positions: u8,
-    // the mask of the free positions
+    /// the mask of the free positions
     pub free: u16,
-    // the mask of the linear ones
+    /// the mask of the linear ones
     pub linear: u16,
 }
 
 impl Marks {
-    // Whether the position is free.
-    pub fn is_free(self, p: u8) -> Result<bool, Refusal>
-        ensures { Gives (first_of (ask_tests self.positions p)) result (λ yes. Decides yes (In p self.free)) }
+    /// Whether the position is free. None of 16 or more is.
+    pub fn is_free(self, p: u8) -> bool
+        ensures { IsTrue result ↔ In p self.free }
     {
-        check_position(self.positions, p)?;
-        Ok(has(self.free, p))
+        has(self.free, p)
     }
 
-    // Whether it is linear.
-    pub fn is_linear(self, p: u8) -> Result<bool, Refusal>
-        ensures { Gives (first_of (ask_tests self.positions p)) result (λ yes. Decides yes (In p self.linear)) }
+    /// Whether the position is linear. None of 16 or more is.
+    pub fn is_linear(self, p: u8) -> bool
+        ensures { IsTrue result ↔ In p self.linear }
     {
-        check_position(self.positions, p)?;
-        Ok(has(self.linear, p))
+        has(self.linear, p)
     }
 }

@@ -1,10 +1,8 @@
-// Sets of positions as masks: position p is the bit p.
-ghost use Rattle.domain.specs.Leaving.{Without};
-ghost use Rattle.domain.specs.Masks.{In, Meets};
-ghost use Rattle.domain.specs.Requests.{contained, without};
-ghost use Rattle.std.specs.Prelude.{◌≡◌, ◌^◌, ◌<◌, ◌≤◌, Decides};
+//! Sets of positions as masks: position p is the bit p.
+ghost use Rattle.domain.specs.Masks.{In, Meets, Loses, contained, without};
+ghost use Rattle.std.specs.Prelude.{◌≡◌, ◌↔◌, ◌^◌, ◌<◌, ◌≤◌, IsTrue};
 
-// The mask of one position. One of 16 or more is in no mask.
+/// The mask of one position. One of 16 or more is in no mask.
 pub fn single(p: u8) -> u16
     ensures inside { p < 16 → result ≡ 2 ^ p }
     ensures past { 16 ≤ p → result ≡ 0 }
@@ -15,9 +13,9 @@ pub fn single(p: u8) -> u16
     1 << p
 }
 
-// Whether the mask holds the position. None has one of 16 or more.
+/// Whether the mask holds the position. None has one of 16 or more.
 pub fn has(mask: u16, p: u8) -> bool
-    ensures { Decides result (In p mask) }
+    ensures { IsTrue result ↔ In p mask }
 {
     if p >= 16 {
         return false;
@@ -25,38 +23,37 @@ pub fn has(mask: u16, p: u8) -> bool
     (mask >> p) & 1 == 1
 }
 
-// Whether it holds both positions, which may be one. Two positions go side by side wherever a pair is asked: no
-// fact ties them, and a pair of them would be made at each call to be taken apart in the next.
+/// Whether the mask holds both positions, which may be one.
 pub fn has_both(mask: u16, p: u8, q: u8) -> bool
-    ensures { Decides result (In p mask × In q mask) }
+    ensures { IsTrue result ↔ (In p mask × In q mask) }
 {
     has(mask, p) && has(mask, q)
 }
 
+/// Whether the masks have a position in common.
 pub fn meets(a: u16, b: u16) -> bool
-    ensures { Decides result (Meets a b) }
+    ensures { IsTrue result ↔ Meets a b }
 {
     a & b != 0
 }
 
-// Whether every position of a is one of b.
+/// Whether every position of a is one of b.
 pub fn within(a: u16, b: u16) -> bool
     ensures { result ≡ contained a b }
 {
     a & b == a
 }
 
-// The positions of `mask` that are not in `lost`.
-pub fn minus(mask: u16, lost: u16) -> u16
+/// The positions of `mask` that are not in `lost`.
+pub fn without(mask: u16, lost: u16) -> u16
     ensures { result ≡ without mask lost }
 {
     mask ^ (mask & lost)
 }
 
-// The positions of `mask`, without those of `lost` where `drops` says so: a rule asks it in one line of each
-// side, where an `if` around a mask would take five.
-pub fn without(mask: u16, lost: u16, drops: bool) -> u16
-    ensures { Without mask lost drops result }
+/// The positions of `mask`, without those of `lost` where `drops` says so.
+pub fn without_where(mask: u16, lost: u16, drops: bool) -> u16
+    ensures { Loses mask lost drops result }
 {
-    if drops { minus(mask, lost) } else { mask }
+    if drops { without(mask, lost) } else { mask }
 }

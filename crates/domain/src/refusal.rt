@@ -1,49 +1,53 @@
-// The fixed table of refusals. Every call and every sheet ends in its answer or in one of these.
+//! The fixed table of refusals. Every call and every sheet ends in its answer or in one of these.
 ghost use Rattle.std.specs.Prelude.{◌≡◌, Some};
 ghost use Rattle.domain.specs.Refusals.{number_of, layer_of, layer_name};
 
 use std::fmt;
 
+/// Why a call or a sheet is refused.
 #[derive(Clone, Copy, PartialEq, Eq, Debug)]
 pub enum Refusal {
-    // a record runs past the sheet or the record around it, or no end record comes
+    /// a record runs past the sheet or the record around it, or no end record comes
     Truncated,
-    // the kind is not one for that place
+    /// the kind is not one for that place
     Kind,
-    // the payload does not fit its kind, or the sheet is too long
+    /// the payload does not fit its kind, or the sheet is too long
     Length,
-    // anything but an open before the open, a second open, anything after the end
+    /// anything but an open before the open, a second open, anything after the end
     Order,
-    // the number of positions is 0 or above 12
+    /// the number of positions is 0 or above 12
     Count,
-    // a position is out of range
+    /// a position is out of range
     Position,
-    // a position is bound to itself, bare
+    /// a position is bound to itself, bare
     Itself,
-    // a compound nests too deep
+    /// a compound nests too deep
     Depth,
-    // a group is empty, out of order or out of range
+    /// a group is empty, out of order or out of range
     Groups,
-    // the masks are none that a description or a term can have
-    Marks,
-    // no question has this letter
+    /// the masks are none that a description or a term can have
+    Masks,
+    /// no question has this letter
     Letter,
-    // the core has more groups than the keeper has room for
+    /// the core has more groups than the keeper has room for
     Capacity,
-    // a lent list is too short
+    /// a lent list is too short
     Room,
 }
 
-// Who refuses: the reader of the sheet, the runner of its steps, or the keeper.
+/// Who refuses: the reader of the sheet, the runner of its steps, or the keeper.
 #[derive(Clone, Copy, PartialEq, Eq, Debug)]
 pub enum Layer {
+    /// the reader of the sheet
     Reader,
+    /// the runner of its steps
     Runner,
+    /// the keeper
     Keeper,
 }
 
 impl Refusal {
-    // The refusal's number in the table.
+    /// The refusal's number in the table.
     pub fn number(self) -> u8
         ensures { result ≡ number_of self }
     {
@@ -57,14 +61,14 @@ impl Refusal {
             Refusal::Itself => 7,
             Refusal::Depth => 8,
             Refusal::Groups => 9,
-            Refusal::Marks => 10,
+            Refusal::Masks => 10,
             Refusal::Letter => 11,
             Refusal::Capacity => 12,
             Refusal::Room => 13,
         }
     }
 
-    // The layer that alone gives this refusal, where there is one.
+    /// The layer that alone gives this refusal, where there is one.
     pub fn layer(self) -> Option<Layer>
         ensures { result ≡ layer_of self }
     {
@@ -77,14 +81,14 @@ impl Refusal {
             Refusal::Count
             | Refusal::Itself
             | Refusal::Groups
-            | Refusal::Marks
+            | Refusal::Masks
             | Refusal::Capacity => { Some(Layer::Keeper) }
             Refusal::Order | Refusal::Position | Refusal::Room => None,
         }
     }
 }
 
-// The name that a line prints.
+/// The name that a line prints.
 impl fmt::Display for Layer {
     ghost output = { λ layer. Some (layer_name layer) };
 

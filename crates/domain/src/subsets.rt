@@ -1,4 +1,4 @@
-// The subsets of a mask that are not empty, from the mask itself downwards.
+//! The subsets of a mask that are not empty, from the mask itself downwards.
 ghost use Rattle.std.specs.Iterator.{item_count, YieldsFirst};
 ghost use Rattle.std.specs.Prelude.{◌≡◌, ℕ, List};
 ghost use Rattle.domain.specs.Masks.{Within};
@@ -6,7 +6,7 @@ ghost use Rattle.domain.specs.Subsets.{subsets_from};
 
 use std::marker::Model;
 
-// Clauses see the list of those that are left.
+/// A walk over the subsets of a mask that are not empty; clauses see the list of those that are left.
 #[derive(Drop)]
 pub struct Subsets {
     mask: u16,
@@ -23,6 +23,7 @@ impl Model for Subsets {
 }
 
 impl Subsets {
+    /// All subsets of the mask.
     pub fn of(mask: u16) -> Self
         ensures { result ≡ subsets_from mask mask }
     {

@@ -1,25 +1,8 @@
-// The bit table of groups: the mask g is bit g % 8 of byte g / 8.
+//! The bit table of groups: the mask g is bit g % 8 of byte g / 8.
 ghost use Rattle.std.specs.Prelude.{◌≡◌, ℕ, ◌/◌, ◌%◌, ◌^◌, ◌<◌, ◌≤◌, ◌≢◌, length, ◌==◌};
-ghost use Rattle.domain.specs.Refusals.{first_of};
-ghost use Rattle.domain.specs.Requests.{room_tests, Gives};
-ghost use Rattle.domain.specs.Tables.{holds_bit, in_range, told_of};
+ghost use Rattle.domain.specs.Tables.{holds_bit, in_range, is_group};
 
-use crate::refusal::Refusal;
-
-// The bytes that have a bit for every mask of 12 positions.
-pub const BYTES: usize = 512;
-
-// Refuses fewer bytes than the masks of 12 positions need.
-pub fn check_room(bytes: usize) -> Result<(), Refusal>
-    ensures { Gives (first_of (room_tests bytes)) result (λ u. 512 ≤ bytes) }
-{
-    if bytes < BYTES {
-        return Err(Refusal::Room);
-    }
-    Ok(())
-}
-
-// The bit of the mask g; false where the table ends before it.
+/// The bit of the mask g; false where the table ends before it.
 pub fn holds(table: &[u8], g: u16) -> bool
     ensures { result ≡ holds_bit table.now g }
 {
@@ -29,7 +12,7 @@ pub fn holds(table: &[u8], g: u16) -> bool
     }
 }
 
-// Whether g is one of the masks that a description of so many positions can have as a group.
+/// Whether g is one of the masks that a description of so many positions can have as a group.
 pub fn in_range(positions: u8, g: u16) -> bool
     ensures { result ≡ in_range positions g }
 {
@@ -42,14 +25,14 @@ pub fn in_range(positions: u8, g: u16) -> bool
     g < 1 << positions
 }
 
-// Whether g is one of the groups of a table of so many positions. The masks play no part.
+/// Whether g is one of the groups of a table of so many positions.
 pub fn is_group(table: &[u8], positions: u8, g: u16) -> bool
-    ensures { result ≡ (told_of positions table.now 0 0).groups g }
+    ensures { result ≡ is_group positions table.now g }
 {
     in_range(positions, g) && holds(table, g)
 }
 
-// Sets the bit of the mask g to `on`; where the table ends before it, nothing is written.
+/// Sets the bit of the mask g to `on`; where the table ends before it, nothing is written.
 pub fn put(table: &mut [u8], g: u16, on: bool)
     ensures at { g / 8 < length table.old → holds_bit table.new g ≡ on }
     ensures others { (h : ℕ) → h ≢ g → holds_bit table.new h ≡ holds_bit table.old h }

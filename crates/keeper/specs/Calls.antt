@@ -1,16 +1,14 @@
 -- What each call of a keeper promises, over what the keeper tells before and after it.
-use Rattle.std.specs.Prelude.{◌≡◌, ℕ, ◌≤◌, Bool, true, false, not, ◌||◌, ◌⊎◌, List, [], ◌∷◌, ◌++◌, length, drop, Some, None, Ok, Err, Decides, Option, Result, ◌==◌, nat_lt}
-use Rattle.domain.specs.Binding.{Bound}
-use Rattle.domain.specs.Coverage.{CoreFits, CoreList}
-use Rattle.domain.specs.Forgetting.{Forgotten}
-use Rattle.domain.specs.Joining.{Joined}
+use Rattle.std.specs.Prelude.{◌≡◌, ℕ, ◌≤◌, Bool, true, false, not, ◌↔◌, ◌⊎◌, List, ◌∷◌, ◌++◌, length, drop, Some, None, Ok, Err, IsTrue, Option, Result, ◌==◌}
+use Rattle.domain.specs.Changes.{Makes, change_tests}
+use Rattle.domain.specs.Coverage.{Alike, CoreFits, CoreList}
 use Rattle.domain.specs.Opening.{New}
 use Rattle.domain.specs.Refusals.{first_of}
-use Rattle.domain.specs.Requests.{ask_tests, pair_tests, bind_tests, join_tests, forget_tests}
+use Rattle.domain.specs.Requests.{open_tests, room_tests, ask_tests, pair_tests}
 use Rattle.domain.specs.Told.{Told, Group}
+use Rattle.domain.specs.declared.change.Change.{Change}
 use Rattle.domain.specs.declared.refusal.Refusal.{Refusal}
-use Rattle.domain.specs.declared.refusal.Refusal.TheVariants.{Order, Count, Room, Capacity}
-use Rattle.domain.specs.declared.term.Term.{Term}
+use Rattle.domain.specs.declared.refusal.Refusal.TheVariants.{Order, Room, Capacity}
 use Rattle.keeper.specs.declared.fault.KeeperFault.{KeeperFault}
 use Rattle.keeper.specs.declared.write_out.WrittenOut.{WrittenOut}
 
@@ -33,7 +31,7 @@ Changes None capacity Rule Left before after (Err f) =
 -- A question: refused by its tests, or yes exactly when `Holds`.
 abbrev pub Answers : Option Refusal → Type 0 → Result Bool KeeperFault → Type 0
 Answers (Some e) Holds r = r ≡ Err (fault_of e)
-Answers None Holds (Ok yes') = Decides yes' Holds
+Answers None Holds (Ok yes') = IsTrue yes' ↔ Holds
 Answers None Holds (Err f) = ⊥
 
 -- the description told is exactly the one that the rule gives
@@ -45,11 +43,10 @@ abbrev pub opened : Told → Bool
 opened d = not (d.n == 0)
 
 abbrev pub open_refusal : Told → ℕ → ℕ → Option Refusal
-open_refusal d n scratch =
-    first_of ((opened d, Order) ∷ (n == 0 || nat_lt 12 n, Count) ∷ (nat_lt scratch 512, Room) ∷ [])
+open_refusal d n scratch = first_of ((opened d, Order) ∷ (open_tests n ++ room_tests n scratch))
 
-abbrev pub bind_refusal : Told → ℕ → Term → ℕ → Option Refusal
-bind_refusal d x t scratch = first_of ((not (opened d), Order) ∷ bind_tests d.n x t scratch)
+abbrev pub change_refusal : Told → Change (List ℕ) → ℕ → Option Refusal
+change_refusal d c scratch = first_of ((not (opened d), Order) ∷ change_tests d.n c scratch)
 
 abbrev pub ask_refusal : Told → ℕ → Option Refusal
 ask_refusal d p = first_of ((not (opened d), Order) ∷ ask_tests d.n p)
@@ -62,35 +59,17 @@ abbrev pub Opens : ℕ → ℕ → ℕ → Told → Told → Result (Unit {0}) K
 Opens capacity n scratch before after r =
     Changes (open_refusal before n scratch) capacity (New n) Exactly before after r
 
--- Bind leaves a description that answers, by `Left`, to what the bind rule gives.
-abbrev pub Binds : (Told → Told → Type 0) → ℕ → ℕ → Term → ℕ → Told → Told
-    → Result (Unit {0}) KeeperFault → Type 0
-Binds Left capacity x t scratch before after r =
-    Changes (bind_refusal before x t scratch) capacity (Bound before x t) Left before after r
+-- A change leaves a description alike with what its rule makes of the one told before.
+abbrev pub ChangesBy : Change (List ℕ) → ℕ → ℕ → Told → Told → Result (Unit {0}) KeeperFault → Type 0
+ChangesBy c capacity scratch before after r =
+    Changes (change_refusal before c scratch) capacity (Makes c before) Alike before after r
 
--- Join leaves a description that answers to the union of the groups and the common marks.
-abbrev pub join_refusal : Told → ℕ → ℕ → List ℕ → ℕ → Option Refusal
-join_refusal d free linear hs scratch = first_of ((not (opened d), Order) ∷ join_tests d.n free linear hs scratch)
-
-abbrev pub Joins : (Told → Told → Type 0) → ℕ → ℕ → ℕ → List ℕ → ℕ → Told → Told
-    → Result (Unit {0}) KeeperFault → Type 0
-Joins Left capacity free linear hs scratch before after r =
-    Changes (join_refusal before free linear hs scratch) capacity (Joined before free linear hs) Left before after r
-
--- Forget leaves a description that answers to the one in which the positions of the mask stand alone again.
-abbrev pub forget_refusal : Told → ℕ → ℕ → Option Refusal
-forget_refusal d m scratch = first_of ((not (opened d), Order) ∷ forget_tests d.n m scratch)
-
-abbrev pub Forgets : (Told → Told → Type 0) → ℕ → ℕ → ℕ → Told → Told → Result (Unit {0}) KeeperFault → Type 0
-Forgets Left capacity m scratch before after r =
-    Changes (forget_refusal before m scratch) capacity (Forgotten before m) Left before after r
-
--- Write-out puts the core at the start of the list, whose other entries stay, and answers its count and the masks;
--- it is refused, and the list stays, where there is no description or the core does not fit the list.
+-- Write-out puts the core at the start of the list, whose other entries stay, and answers its count and the
+-- marks; it is refused, and the list stays, where there is no description or the core does not fit the list.
 abbrev pub Writes : Told → List ℕ → List ℕ → Result WrittenOut KeeperFault → Type 0
 Writes d list list' (Ok w) =
     (opened d ≡ true)
-    × (w.free ≡ d.free) × (w.linear ≡ d.linear)
+    × (w.marks ≡ d.marks)
     × ((gs : List ℕ) × CoreList (Group d) gs × (w.count ≡ length gs) × (length gs ≤ length list) × (list' ≡ gs ++ drop (length gs) list))
 Writes d list list' (Err f) =
     (list' ≡ list)

@@ -1,8 +1,7 @@
 -- What a keeper answers to a question, from the description that it tells.
 use Rattle.std.specs.Prelude.{Bool, Result}
-use Rattle.domain.specs.Masks.{In}
-use Rattle.domain.specs.Told as domain
-use Rattle.domain.specs.Told.{Told, Share}
+use Rattle.domain.specs.Groups.{IsGround, Share}
+use Rattle.domain.specs.Told.{Told, Group, IsFree, IsLinear}
 use Rattle.keeper.specs.Calls.{Answers, ask_refusal, pair_refusal}
 use Rattle.keeper.specs.declared.fault.KeeperFault.{KeeperFault}
 use Rattle.keeper.specs.declared.question.Question.{Question}
@@ -10,7 +9,7 @@ use Rattle.keeper.specs.declared.question.Question.TheVariants.{Ground, Free, Li
 
 -- each question answers from the description told
 abbrev pub Asks : Told → Question → Result Bool KeeperFault → Type 0
-Asks d (Ground p) r = Answers (ask_refusal d p) (domain.Ground d p) r
-Asks d (Free p) r = Answers (ask_refusal d p) (In p d.free) r
-Asks d (Linear p) r = Answers (ask_refusal d p) (In p d.linear) r
-Asks d (Pair p q) r = Answers (pair_refusal d p q) (Share d p q) r
+Asks d (Ground p) r = Answers (ask_refusal d p) (IsGround d.n (Group d) p) r
+Asks d (Free p) r = Answers (ask_refusal d p) (IsFree d p) r
+Asks d (Linear p) r = Answers (ask_refusal d p) (IsLinear d p) r
+Asks d (Pair p q) r = Answers (pair_refusal d p q) (Share (Group d) p q) r

@@ -1,10 +1,12 @@
+//! The faults of a keeper.
 ghost use Rattle.std.specs.Prelude.{◌≡◌};
 
 use domain::refusal::Refusal;
 
-// A keeper's own fault: the refusal that the call met.
+/// A keeper's own fault: the refusal that the call met.
 #[derive(Clone, Copy, PartialEq, Eq, Debug)]
 pub struct KeeperFault {
+    /// what was refused
     pub refusal: Refusal,
 }
 

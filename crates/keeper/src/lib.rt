@@ -1,4 +1,4 @@
-// Keepers: what holds a description and answers questions about it.
+//! Keepers: what holds a description and answers questions about it.
 #![tactic(auto)]
 
 pub mod fault;

@@ -1,8 +1,11 @@
-// What a write-out of the core answers: how many groups the core has, and the two masks.
+//! What a write-out of the core answers.
+use domain::marks::Marks;
+
+/// How many groups the core has, which stand at the start of the lent list, and the marks.
 #[derive(Clone, Copy, PartialEq, Eq, Debug)]
 pub struct WrittenOut {
-    // the groups stand at the start of a lent list, so their number is told
+    /// how many groups the core has
     pub count: usize,
-    pub free: u16,
-    pub linear: u16,
+    /// what is known of the positions
+    pub marks: Marks,
 }

@@ -1,5 +1,5 @@
 -- Terms as trees, and what a bind has to know of one.
-use Rattle.std.specs.Prelude.{◌≡◌, ℕ, ◌+◌, ◌^◌, ◌≤◌, Bool, true, false, cond, ◌↔◌, ◌==◌, bit_and, bit_or}
+use Rattle.std.specs.Prelude.{◌≡◌, ℕ, ◌+◌, ◌^◌, ◌≤◌, Bool, true, false, if◌then◌else◌, ◌↔◌, ◌==◌, bit_and, bit_or}
 use Rattle.domain.specs.Masks.{In}
 use Rattle.domain.specs.declared.term.Term.{Term}
 
@@ -17,7 +17,7 @@ mutual
 -- how often the term holds the position p
 abbrev mutual
   pub occurrences : Tree → ℕ → ℕ
-  occurrences (position q) p = cond (p == q) 1 0
+  occurrences (position q) p = (if p == q then 1 else 0)
   occurrences (constant f) p = 0
   occurrences (compound f args) p = occurrences_in args p
 
@@ -25,24 +25,26 @@ abbrev mutual
   occurrences_in none p = 0
   occurrences_in (more t args) p = occurrences t p + occurrences_in args p
 
+-- what a bind has to know of a position by itself, and of a compound over the positions of a mask
+abbrev pub bare_term : ℕ → Term
+bare_term p = record { bare = true; held = 2 ^ p; repeated = 0 }
+
+abbrev pub over_term : (held repeated : ℕ) → Term
+over_term held repeated = record { bare = false; held = held; repeated = repeated }
+
 -- no position is held
-abbrev pub nothing : Term
-nothing = record { bare = false; held = 0; repeated = 0 }
+abbrev pub constant_term : Term
+constant_term = over_term 0 0
 
 -- two terms side by side: held twice is what either repeats, and what both hold
 abbrev pub beside : Term → Term → Term
-beside a b =
-    record {
-      bare = false;
-      held = bit_or a.held b.held;
-      repeated = bit_or (bit_or a.repeated b.repeated) (bit_and a.held b.held);
-    }
+beside a b = over_term (bit_or a.held b.held) (bit_or (bit_or a.repeated b.repeated) (bit_and a.held b.held))
 
 abbrev mutual
   pub summary : Tree → Term
-  summary (position p) = record { bare = true; held = 2 ^ p; repeated = 0 }
-  summary (constant f) = nothing
-  summary (compound f args) = gathered args nothing
+  summary (position p) = bare_term p
+  summary (constant f) = constant_term
+  summary (compound f args) = gathered args constant_term
 
   -- the arguments, each beside those before it
   pub gathered : Args → Term → Term
