@@ -17,8 +17,8 @@ use Rattle.domain.specs.declared.refusal.Refusal.TheVariants.{Order}
 use Rattle.keeper.specs.Calls.{Changes, Answers, Writes, opened}
 use Rattle.keeper.specs.Questions.{Asks}
 use Rattle.keeper.specs.declared.fault.KeeperFault.{KeeperFault}
-use Rattle.keeper.specs.declared.question.Question.{Question}
-use Rattle.keeper.specs.declared.question.Question.TheVariants.{Ground, Free, Linear, Pair}
+use Rattle.keeper.specs.declared.questions.Question.{Question}
+use Rattle.keeper.specs.declared.questions.Question.TheVariants.{Ground, Free, Linear, Pair}
 use Rattle.keeper.specs.declared.write_out.WrittenOut.{WrittenOut}
 use Rattle.agreement.proofs.Agreeing.{changes_same, answers_agree, alike_ends}
 use Rattle.agreement.proofs.Cores.{one_core}

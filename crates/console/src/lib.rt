@@ -6,7 +6,7 @@ ghost use Rattle.std.specs.Prelude.{◌≡◌, IfOk, string_bytes, OnOk};
 ghost use Rattle.console.specs.Printing.{Prints, Served};
 
 use domain::table::BYTES;
-use keeper::keeper::Keeper;
+use keeper::Keeper;
 use runner::run::{LONGEST_SHEET, run};
 use sheet::mark::StepMark;
 use std::alloc::{AllocError, Global};

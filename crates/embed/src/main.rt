@@ -5,8 +5,8 @@
 use domain::limits::TABLE_BYTES;
 use domain::refusal::Refusal;
 use domain::term::Term;
-use keeper::fault::KeeperFault;
-use keeper::keeper::Keeper;
+use keeper::KeeperFault;
+use keeper::Keeper;
 use list_keeper::ListKeeper;
 use std::io;
 use table_keeper::TableKeeper;
@@ -14,8 +14,8 @@ use table_keeper::TableKeeper;
 fn main(rt: HostRuntime) -> anyhow::Result<()> {
     println!(rt; "table keeper")?;
     walk(&rt, &mut TableKeeper::new())?;
-    println!(rt; "list keeper of two groups")?;
-    let mut list = [0; 2];
+    println!(rt; "list keeper with room for three groups")?;
+    let mut list = [0; 3];
     walk(&rt, &mut ListKeeper::new(&mut list))?;
     Ok(())
 }
@@ -25,11 +25,23 @@ fn main(rt: HostRuntime) -> anyhow::Result<()> {
 fn walk<K: Keeper>(rt: &HostRuntime, keeper: &mut K) -> io::Result<()> {
     let mut scratch = [0; TABLE_BYTES];
     accepted(rt, "open 3", keeper.open(3, &mut scratch))?;
-    accepted(rt, "bind 0 to f(1, 2)", keeper.bind(0, Term::over(0b110, 0), &mut scratch))?;
+    accepted(
+        rt,
+        "bind 0 to f(1, 2)",
+        keeper.bind(0, Term::over(0b110, 0), &mut scratch),
+    )?;
     ask(rt, keeper)?;
-    accepted(rt, "bind 1 to a constant", keeper.bind(1, Term::over(0, 0), &mut scratch))?;
+    accepted(
+        rt,
+        "bind 1 to a constant",
+        keeper.bind(1, Term::over(0, 0), &mut scratch),
+    )?;
     ask(rt, keeper)?;
-    accepted(rt, "bind 2 to itself", keeper.bind(2, Term::position(2), &mut scratch))?;
+    accepted(
+        rt,
+        "bind 2 to itself",
+        keeper.bind(2, Term::position(2), &mut scratch),
+    )?;
     write_out(rt, keeper)
 }
 
@@ -47,7 +59,10 @@ fn write_out<K: Keeper>(rt: &HostRuntime, keeper: &K) -> io::Result<()> {
     let mut groups = [0; 4];
     match keeper.write_out(&mut groups) {
         Ok(written) => {
-            println!(rt; "core of {} group(s), free {}, linear {}", written.count, written.marks.free, written.marks.linear)?;
+            println!(rt;
+                "core of {} group(s), free {}, linear {}",
+                written.count, written.marks.free, written.marks.linear
+            )?;
             for group in groups.iter().take(written.count) {
                 println!(rt; "  group {group}")?;
             }

@@ -2,8 +2,8 @@
 use Rattle.std.specs.Prelude.{ℕ, ◌+◌, ◌-◌, ◌/◌, ◌%◌, cond, not, ◌||◌, List, Some, None, Ok, Option, ◌==◌, nat_lt}
 use Rattle.domain.specs.declared.refusal.Refusal.TheVariants.{Kind, Length, Letter}
 use Rattle.reader.specs.declared.record.Record.{Record}
-use Rattle.keeper.specs.declared.question.Question.{Question}
-use Rattle.keeper.specs.declared.question.Question.TheVariants.{Ground, Free, Linear, Pair}
+use Rattle.keeper.specs.declared.questions.Question.{Question}
+use Rattle.keeper.specs.declared.questions.Question.TheVariants.{Ground, Free, Linear, Pair}
 use Rattle.sheet.specs.declared.step.Step.{Step}
 use Rattle.sheet.specs.declared.step.Step.TheVariants as step
 use Rattle.sheet.specs.declared.step.StepKind.{StepKind}

@@ -4,7 +4,7 @@ ghost use Rattle.std.specs.Prelude.{◌≤◌};
 use crate::record::SheetRecord;
 use domain::refusal::Refusal;
 use domain::term::Term;
-use keeper::question::Question;
+use keeper::Question;
 use sheet::fault::ReaderFault;
 use sheet::step::Step;
 use std::process::Abort;

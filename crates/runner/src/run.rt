@@ -7,7 +7,7 @@ ghost use Rattle.runner.specs.Turning.{end_of};
 
 use crate::turn::{Cursor, take_step};
 use domain::refusal::Refusal;
-use keeper::keeper::Keeper;
+use keeper::Keeper;
 use reader::state::State;
 use roll::roll::Roll;
 use sheet::fault::{ReaderFault, RunnerFault, SheetFault};

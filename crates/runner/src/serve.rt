@@ -4,8 +4,8 @@ ghost use Rattle.sheet.specs.Steps.{Inside, group_count};
 ghost use Rattle.runner.specs.Serving.{Serves};
 
 use domain::listing::Listing;
-use keeper::fault::KeeperFault;
-use keeper::keeper::Keeper;
+use keeper::KeeperFault;
+use keeper::Keeper;
 use reader::groups::copy_groups;
 use sheet::step::Step;
 

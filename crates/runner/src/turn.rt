@@ -6,7 +6,7 @@ ghost use Rattle.reader.specs.Following.{next_at};
 
 use crate::serve::serve;
 use domain::refusal::Refusal;
-use keeper::keeper::Keeper;
+use keeper::Keeper;
 use reader::next::next_step;
 use reader::state::State;
 use roll::roll::Roll;

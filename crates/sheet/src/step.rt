@@ -6,7 +6,7 @@ ghost use Rattle.sheet.specs.Steps.{kind_of, group_count};
 
 use domain::refusal::Refusal;
 use domain::term::Term;
-use keeper::question::Question;
+use keeper::Question;
 use std::fmt;
 
 // The kinds of steps, without what they carry.

@@ -103,8 +103,8 @@ unfolding called_on
 call_done k z room (Change c) s b law =
     let rule : (change_refusal (tell s) c z ≡ None) → Makes c (tell s) (tell (change_of c s)) × Lawful (tell (change_of c s)) =
     λ q.
-        let made = change_rule c s z (passed (not (opened (tell s))) Order (first_of (change_tests s.n c z)) (sym q)).1 in
-        (made, made_lawful c z (tell s) (tell (change_of c s)) law q made) in
+    let made = change_rule c s z (passed (not (opened (tell s))) Order (first_of (change_tests s.n c z)) (sym q)).1 in
+    (made, made_lawful c z (tell s) (tell (change_of c s)) law q made) in
     let m = change_computed {k = k} {Rule = Makes c (tell s)} (change_refusal (tell s) c z) (change_of c s) s rule in
     record { reckons = m.reckons; called = m.called }
 call_done k z room (Ask q) s b law = absurd (both_ways false refl b)

@@ -5,9 +5,9 @@ use domain::listing::Listing;
 use domain::marks::Marks;
 use domain::refusal::Refusal;
 use domain::term::Term;
-use keeper::fault::KeeperFault;
-use keeper::keeper::Keeper;
-use keeper::write_out::WrittenOut;
+use keeper::KeeperFault;
+use keeper::Keeper;
+use keeper::WrittenOut;
 use list_keeper::ListKeeper;
 use std::process::Abort;
 use std::test::Fail;
@@ -52,7 +52,12 @@ fn shows<K: Keeper>(
 }
 
 // On both keepers.
-fn binds_show(rt: &impl Abort, n: u8, binds: &[(u8, Term)], row: Listing<&[u16]>) -> Result<(), Fail> {
+fn binds_show(
+    rt: &impl Abort,
+    n: u8,
+    binds: &[(u8, Term)],
+    row: Listing<&[u16]>,
+) -> Result<(), Fail> {
     shows(rt, &mut TableKeeper::new(), n, binds, row)?;
     shows(rt, &mut ListKeeper::new(&mut [0; 16]), n, binds, row)
 }
