@@ -1,4 +1,4 @@
-// Rolls: one ordered list for every kind of entry that has a key.
+//! Rolls: one ordered list for every kind of entry that has a key.
 #![tactic(auto)]
 
 mod insertion;

@@ -1,10 +1,10 @@
-// The roll, and what is asked of it.
+//! The roll, and what is asked of it.
 ghost use Rattle.std.specs.Prelude.{◌≤◌, length};
 
 mod calls;
 
-// A roll: an ordered list over lent memory. The entries in use stand at the start of the slice, in
-// ascending order of their keys, and those behind them are spare. Nothing is allocated, so it is no Vec.
+/// An ordered list over lent memory. The entries in use stand at the start of the slice, in the order of their
+/// keys, and those behind them are spare.
 #[derive(Drop)]
 pub struct Roll<'a, T> {
     entries: &'a mut [T],

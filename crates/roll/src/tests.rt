@@ -1,4 +1,4 @@
-// Rolls of numbers and of records, and keys that have no order.
+//! Rolls of numbers and of records, and keys that have no order.
 use crate::key::{Keyed, Ranked};
 use crate::not_added::NotAdded;
 use crate::roll::Roll;
