@@ -6,7 +6,7 @@ use domain::refusal::Refusal;
 use keeper::KeeperFault;
 use keeper::Keeper;
 use list_keeper::ListKeeper;
-use roll::roll::Roll;
+use roll::Roll;
 use std::test::Fail;
 
 // The first 52 pairs of positions, ascending.

@@ -9,7 +9,7 @@ use crate::turn::{Cursor, take_step};
 use domain::refusal::Refusal;
 use keeper::Keeper;
 use reader::state::State;
-use roll::roll::Roll;
+use roll::Roll;
 use sheet::fault::{ReaderFault, RunnerFault, SheetFault};
 use sheet::mark::StepMark;
 

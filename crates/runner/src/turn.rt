@@ -9,7 +9,7 @@ use domain::refusal::Refusal;
 use keeper::Keeper;
 use reader::next::next_step;
 use reader::state::State;
-use roll::roll::Roll;
+use roll::Roll;
 use sheet::fault::RunnerFault;
 use sheet::mark::StepMark;
 
