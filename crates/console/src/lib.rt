@@ -8,7 +8,7 @@ ghost use Rattle.console.specs.Printing.{Prints, Served};
 use domain::table::BYTES;
 use keeper::Keeper;
 use runner::run::{LONGEST_SHEET, run};
-use sheet::mark::StepMark;
+use sheet::StepMark;
 use std::alloc::{AllocError, Global};
 use std::io::Read;
 use transcript::transcript;

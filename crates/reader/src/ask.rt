@@ -5,7 +5,7 @@ ghost use Rattle.reader.specs.Payloads.{one_of, two_of, question_of};
 use crate::record::SheetRecord;
 use domain::refusal::Refusal;
 use keeper::Question;
-use sheet::fault::ReaderFault;
+use sheet::ReaderFault;
 
 impl SheetRecord<'_> {
     // The question of an ask: its letter, and then the positions that the letter takes.

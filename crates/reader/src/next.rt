@@ -6,8 +6,8 @@ ghost use Rattle.sheet.specs.Steps.{Inside};
 use crate::record::SheetRecord;
 use crate::state::State;
 use domain::refusal::Refusal;
-use sheet::fault::RunnerFault;
-use sheet::step::Step;
+use sheet::RunnerFault;
+use sheet::Step;
 
 // A step that was read, the state after it and the place where the next one begins.
 #[derive(Clone, Copy)]

@@ -4,7 +4,7 @@ ghost use Rattle.reader.specs.Records.{record_at, pair_at, payload, position_at,
 
 use domain::count::{MOST_POSITIONS, check_position};
 use domain::refusal::Refusal;
-use sheet::fault::ReaderFault;
+use sheet::ReaderFault;
 
 // A length and a kind stand before the payload.
 const HEAD: usize = 4;

@@ -3,8 +3,8 @@ ghost use Rattle.std.specs.Prelude.{◌≡◌};
 ghost use Rattle.reader.specs.Following.{move_of};
 
 use domain::refusal::Refusal;
-use sheet::fault::RunnerFault;
-use sheet::step::StepKind;
+use sheet::RunnerFault;
+use sheet::StepKind;
 
 #[derive(Clone, Copy, PartialEq, Eq, Debug)]
 pub enum State {

@@ -3,8 +3,8 @@ ghost use Rattle.sheet.specs.Steps.{Inside};
 ghost use Rattle.reader.specs.Payloads.{open_of, bind_of, join_of, forget_of, ask_of, end_of, step_of};
 
 use crate::record::SheetRecord;
-use sheet::fault::ReaderFault;
-use sheet::step::{Step, StepKind};
+use sheet::ReaderFault;
+use sheet::{Step, StepKind};
 
 impl SheetRecord<'_> {
     // The step of this kind: first the payload's length, then the payload left to right.

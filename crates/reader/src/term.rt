@@ -10,7 +10,7 @@ use crate::record::SheetRecord;
 use crate::sum::{empty, join, single};
 use domain::refusal::Refusal;
 use domain::term::Term;
-use sheet::fault::ReaderFault;
+use sheet::ReaderFault;
 
 // The kinds of terms.
 #[derive(Clone, Copy)]

@@ -5,8 +5,8 @@ use crate::record::SheetRecord;
 use domain::refusal::Refusal;
 use domain::term::Term;
 use keeper::Question;
-use sheet::fault::ReaderFault;
-use sheet::step::Step;
+use sheet::ReaderFault;
+use sheet::Step;
 use std::process::Abort;
 
 // The first step of a sheet.

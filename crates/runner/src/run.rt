@@ -10,8 +10,8 @@ use domain::refusal::Refusal;
 use keeper::Keeper;
 use reader::state::State;
 use roll::Roll;
-use sheet::fault::{ReaderFault, RunnerFault, SheetFault};
-use sheet::mark::StepMark;
+use sheet::{ReaderFault, RunnerFault, SheetFault};
+use sheet::StepMark;
 
 // No sheet has more bytes.
 pub const LONGEST_SHEET: usize = 65_535;

@@ -7,7 +7,7 @@ use domain::listing::Listing;
 use keeper::KeeperFault;
 use keeper::Keeper;
 use reader::groups::copy_groups;
-use sheet::step::Step;
+use sheet::Step;
 
 // The keeper's answer to a step: yes or no, where a step that is no question answers yes. A join's
 // groups are copied to the start of `groups`, whose contents afterwards are free.

@@ -10,8 +10,8 @@ use keeper::Keeper;
 use reader::next::next_step;
 use reader::state::State;
 use roll::Roll;
-use sheet::fault::RunnerFault;
-use sheet::mark::StepMark;
+use sheet::RunnerFault;
+use sheet::StepMark;
 
 // Where a runner stands: its state, the place of the next record and the number of the next step.
 #[derive(Clone, Copy)]
