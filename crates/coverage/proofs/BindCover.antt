@@ -1,430 +1,306 @@
--- The closed form of what the groups of a bind cover.
-use Rattle.std.proofs.Common.{◌≡◌, ℕ, ◌^◌, ◌⊎◌, refl, subst, inl, inr}
+-- The closed form of what the groups of a bind cover. What holds of a side is said once, over its mask a and the
+-- other side's, b.
+use Rattle.std.proofs.Common.{ℕ, ◌⊎◌, refl, subst, inl, inr}
 use lib.Bits.{bit_or}
-use Rattle.domain.specs.Masks.{In, Within}
-use Rattle.domain.specs.Groups.{XGroup, TGroup, Shared, Paired, Closure, one, more, Extended, alone, joined}
-use Rattle.domain.specs.Told.{Told, Group}
+use Rattle.domain.specs.Masks.{In, Within, Meets, without}
+use Rattle.domain.specs.Groups.{Side, Shared, Paired, Closure, one, more, Extended, alone, joined}
 use Rattle.domain.specs.Coverage.{Covers, SameCover}
-use Rattle.domain.specs.Binding.{Made, NewGroup, rest, made, Bound}
-use Rattle.domain.specs.declared.term.Term.{Term}
+use Rattle.domain.specs.Binding.{Made, NewGroup, rest, made}
 use Rattle.domain.specs.declared.case.Case.{Case}
 use Rattle.domain.specs.declared.case.Case.TheVariants.{Free, BothLinear, PositionLinear, TermLinear, Neither}
-use Rattle.coverage.specs.Windows.{minus}
-use Rattle.coverage.specs.BindLaws.{Apart, WithTerm, TermCovered, UnitesX, UnitesT, Linked, before, across, back, by_x, by_t, BindCovers, untouched, met}
-use Rattle.domain.proofs.Bits.{in_lacking, lacking_in, in_single, single_in, in_either, in_left, in_right, union_within, within_left, within_right, within_self, within_trans}
-use Rattle.coverage.proofs.Decided.{dec_in, dec_meets}
-use Rattle.coverage.proofs.Cover.{covers_own, covers_wider, covers_more}
+use Rattle.coverage.specs.BindLaws.{CoversApart, WithSide, SideCovered, UnitesLeft, UnitesRight, Linked, before, across, back, by_left, by_right, BindCovers, untouched, met}
+use Rattle.domain.proofs.Bits.{in_lacking, lacking_in, in_either, in_left, in_right, union_within, within_left, within_right, within_self, within_trans, meets_more}
+use Rattle.domain.proofs.Hull.{Sub, Inside, inside_more, closure_like}
+use Rattle.domain.proofs.Made.{shared_left, shared_right}
+use Rattle.coverage.proofs.Searching.{dec_meets}
+use Rattle.coverage.proofs.Cover.{covers_own, covers_wider, side_group}
 
--- ---- wider windows
+-- ---- what is covered after a bind hangs on what was covered before it alone
 
-pub term_wider : {G : ℕ → Type 0} {v w u q : ℕ} → Within w u → WithTerm (Covers G) v w q → WithTerm (Covers G) v u q
-term_wider h t = record { place = t.place; held = t.held; covered = covers_wider h t.covered }
+module _ {C D : ℕ → ℕ → ℕ → Type 0} {w u : ℕ} (f : (p q : ℕ) → C w p q → D u p q) where
+  with_side_more : {a q : ℕ} → WithSide C a w q → WithSide D a u q
+  with_side_more {q = q} s = record { place = s.place; held = s.held; covered = f s.place q s.covered }
 
-pub covered_wider : {G : ℕ → Type 0} {v w u : ℕ} → Within w u → TermCovered (Covers G) v w → TermCovered (Covers G) v u
-covered_wider h t = record { place = t.place; held = t.held; covered = covers_wider h t.covered }
+  side_covered_more : {a : ℕ} → SideCovered C a w → SideCovered D a u
+  side_covered_more s = record { place = s.place; held = s.held; covered = f s.place s.place s.covered }
 
-pub linked_wider : {G : ℕ → Type 0} {x v : ℕ} {c : Case} {w u p q : ℕ} → Within w u → Linked (Covers G) x v c w p q → Linked (Covers G) x v c u p q
-linked_wider h (before k) = before (covers_wider h k)
-linked_wider h (across k t) = across (covers_wider h k) (term_wider h t)
-linked_wider h (back t k) = back (term_wider h t) (covers_wider h k)
-linked_wider h (by_x a k l) = by_x a (covers_wider h k) (covers_wider h l)
-linked_wider h (by_t a s t) = by_t a (term_wider h s) (term_wider h t)
+  linked_more : {a b : ℕ} {c : Case} {p q : ℕ} → Linked C a b c w p q → Linked D a b c u p q
+  linked_more (before k) = before (f _ _ k)
+  linked_more (across s t) = across (with_side_more s) (with_side_more t)
+  linked_more (back t s) = back (with_side_more t) (with_side_more s)
+  linked_more (by_left y s t) = by_left y (with_side_more s) (with_side_more t)
+  linked_more (by_right y s t) = by_right y (with_side_more s) (with_side_more t)
+
+bind_covers_more : {C D : ℕ → ℕ → ℕ → Type 0} {a b : ℕ} {c : Case} {w p q : ℕ} → ((w p q : ℕ) → C w p q → D w p q) → BindCovers C a b c w p q → BindCovers D a b c w p q
+bind_covers_more f (untouched k) =
+    untouched (record { part = k.part; inside = k.inside; left = k.left; right = k.right; covered = f _ _ _ k.covered })
+bind_covers_more {w = w} f (met s t l) =
+    met (side_covered_more (f w) s) (side_covered_more (f w) t) (linked_more (f w) l)
 
 -- ---- the two sides of a new group
 
 -- u is a union of groups of A
 pub record UnionOf (A : ℕ → Type 0) (u : ℕ) : Type 0 where
-  pub some : ℕ
-  pub some_told : A some
-  pub some_inside : Within some u
+  pub some : Inside A u
   pub each : (p : ℕ) → In p u → Covers A u p p
 
 one_union : {A : ℕ → Type 0} {u : ℕ} → A u → UnionOf A u
-one_union {u = u} a =
-    record { some = u; some_told = a; some_inside = within_self u; each = λ p i. covers_own a i i }
+one_union {u = u} k =
+    record { some = record { group = u; told = k; inside = within_self u }; each = λ p i. covers_own k i i }
 
-pub two_union : {A : ℕ → Type 0} (g h : ℕ) → UnionOf A g → UnionOf A h → UnionOf A (bit_or g h)
-two_union g h a b =
+two_union : {A : ℕ → Type 0} (g h : ℕ) → UnionOf A g → UnionOf A h → UnionOf A (bit_or g h)
+two_union g h m n =
     record {
-      some = a.some;
-      some_told = a.some_told;
-      some_inside = within_trans a.some_inside (within_left g h);
+      some = inside_more m.some (within_left g h);
       each =
           λ p i.
           elim (in_either g h i) [
-            | inl j ↦ covers_wider (within_left g h) (a.each p j)
-            | inr j ↦ covers_wider (within_right g h) (b.each p j)
+            | inl j ↦ covers_wider (within_left g h) (m.each p j)
+            | inr j ↦ covers_wider (within_right g h) (n.each p j)
           ];
     }
 
 pub closure_union : {A : ℕ → Type 0} {u : ℕ} → Closure A u → UnionOf A u
-closure_union (one a) = one_union a
-closure_union (more {g = g} {h = h} a k) = two_union g h (one_union a) (closure_union k)
+closure_union (one k) = one_union k
+closure_union (more {g = g} {h = h} k l) = two_union g h (one_union k) (closure_union l)
 
-union_more : {A B : ℕ → Type 0} {u : ℕ} → ((g : ℕ) → A g → B g) → UnionOf A u → UnionOf B u
-union_more f a =
+-- a position of a union of groups of a side, in a wider window v
+side_each : {G : ℕ → Type 0} {a u v p : ℕ} → Within u v → UnionOf (Side G a) u → In p u → WithSide (Covers G) a v p
+side_each {p = p} h m i =
+    let k = m.each p i in
+    let at = k.told.left in
     record {
-      some = a.some;
-      some_told = f a.some a.some_told;
-      some_inside = a.some_inside;
-      each =
-          λ p i.
-          let k = a.each p i in
-          record { group = k.group; told = f k.group k.told; left = k.left; right = k.right; inside = k.inside };
+      place = at.place;
+      held = at.right;
+      covered = covers_wider h (covers_wider k.inside (covers_own k.told.group at.left k.right));
     }
 
-shared_x : {G : ℕ → Type 0} {x v : ℕ} (g : ℕ) → Shared G x v g → XGroup G x g
-shared_x g s = record { group = s.group; holds = s.holds }
-
-shared_t : {G : ℕ → Type 0} {x v : ℕ} (g : ℕ) → Shared G x v g → TGroup G v g
-shared_t g s = record { group = s.group; meets = s.meets }
-
--- a position in a union of x-groups, and in one of t-groups
-x_each : {G : ℕ → Type 0} {x u p : ℕ} → UnionOf (XGroup G x) u → In p u → Covers G u x p
-x_each {p = p} a i =
-    let k = a.each p i in
-    record { group = k.group; told = k.told.group; left = k.told.holds; right = k.right; inside = k.inside }
-
-x_some : {G : ℕ → Type 0} {x u : ℕ} → UnionOf (XGroup G x) u → Covers G u x x
-x_some a =
+side_some : {G : ℕ → Type 0} {a u v : ℕ} → Within u v → UnionOf (Side G a) u → SideCovered (Covers G) a v
+side_some h m =
+    let at = m.some.told.left in
+    let k = side_each h m (m.some.inside.each at.place at.left) in
     record {
-      group = a.some;
-      told = a.some_told.group;
-      left = a.some_told.holds;
-      right = a.some_told.holds;
-      inside = a.some_inside;
+      place = k.place;
+      held = k.held;
+      covered = covers_wider k.covered.inside (covers_own k.covered.told k.covered.left k.covered.left);
     }
 
-t_each : {G : ℕ → Type 0} {v u p : ℕ} → UnionOf (TGroup G v) u → In p u → WithTerm (Covers G) v u p
-t_each {p = p} a i =
-    let k = a.each p i in
-    let m = k.told.meets in
-    record {
-      place = m.place;
-      held = m.right;
-      covered = record { group = k.group; told = k.told.group; left = m.left; right = k.right; inside = k.inside };
-    }
+-- what ties two positions of one side together: a group of both, one that the other side's mask b has near,
+-- or that the groups of the side are united among themselves
+data Tie (C : ℕ → ℕ → ℕ → Type 0) (b : ℕ) (U : Type 0) (w p q : ℕ) : Type 0 where
+  own : C w p q → Tie C b U w p q
+  first : WithSide C b w p → Tie C b U w p q
+  second : WithSide C b w q → Tie C b U w p q
+  united : U → Tie C b U w p q
 
-t_some : {G : ℕ → Type 0} {v u : ℕ} → UnionOf (TGroup G v) u → TermCovered (Covers G) v u
-t_some a =
-    let m = a.some_told.meets in
-    record {
-      place = m.place;
-      held = m.right;
-      covered = record { group = a.some; told = a.some_told.group; left = m.left; right = m.left; inside = a.some_inside };
-    }
+-- u is a union of groups of the side, and each two positions of it are tied
+record NewSide (G : ℕ → Type 0) (a b : ℕ) (U : Type 0) (u : ℕ) : Type 0 where
+  union : UnionOf (Side G a) u
+  pair : (p q : ℕ) → In p u → In q u → Tie (Covers G) b U u p q
 
--- a side is a union of groups of A, and two positions of it are linked
-record Side (A G : ℕ → Type 0) (x v : ℕ) (c : Case) (u : ℕ) : Type 0 where
-  union : UnionOf A u
-  pair : (p q : ℕ) → In p u → In q u → Linked (Covers G) x v c u p q
+module _ {G : ℕ → Type 0} {a b : ℕ} {U : Type 0} where
+  side_alone : Sub (Side G a) (NewSide G a b U)
+  side_alone u k = record { union = one_union k; pair = λ p q i j. own (covers_own k.group i j) }
 
-abbrev XSide : (ℕ → Type 0) → ℕ → ℕ → Case → ℕ → Type 0
-XSide G x v c u = Side (XGroup G x) G x v c u
+  side_closed : U → Sub (Closure (Side G a)) (NewSide G a b U)
+  side_closed y u k = record { union = closure_union k; pair = λ p q i j. united y }
 
-abbrev TSide : (ℕ → Type 0) → ℕ → ℕ → Case → ℕ → Type 0
-TSide G x v c u = Side (TGroup G v) G x v c u
+  -- groups of S serve as groups of both sides
+  module _ {S : ℕ → Type 0} (to_a : Sub S (Side G a)) (to_b : Sub S (Side G b)) where
+    side_joined : (g s : ℕ) → Side G a g → Closure S s → NewSide G a b U (bit_or g s)
+    side_joined g s k l =
+        record {
+          union = two_union g s (one_union k) (closure_union (closure_like to_a l));
+          pair = λ p q i j. by (in_either g s i) (in_either g s j);
+        }
+      where
+        other : {p : ℕ} → In p s → WithSide (Covers G) b (bit_or g s) p
+        other i = side_each (within_right g s) (closure_union (closure_like to_b l)) i
 
-x_alone : {G : ℕ → Type 0} {x v : ℕ} {c : Case} {u : ℕ} → XGroup G x u → XSide G x v c u
-x_alone a = record { union = one_union a; pair = λ p q i j. before (covers_own a.group i j) }
+        by : {p q : ℕ} → In p g ⊎ In p s → In q g ⊎ In q s → Tie (Covers G) b U (bit_or g s) p q
+        by (inl i) (inl j) = own (covers_wider (within_left g s) (covers_own k.group i j))
+        by (inl i) (inr j) = second (other j)
+        by (inr i) j = first (other i)
 
-t_alone : {G : ℕ → Type 0} {x v : ℕ} {c : Case} {u : ℕ} → TGroup G v u → TSide G x v c u
-t_alone b = record { union = one_union b; pair = λ p q i j. before (covers_own b.group i j) }
+    side_extended : Sub (Extended (Side G a) S) (NewSide G a b U)
+    side_extended u (alone k) = side_alone u k
+    side_extended u (joined k) =
+        subst (NewSide G a b U) k.whole (side_joined k.left k.right k.in_left k.in_right)
 
-x_closed : {G : ℕ → Type 0} {x v : ℕ} {c : Case} {u : ℕ} → UnitesX c → Closure (XGroup G x) u → XSide G x v c u
-x_closed y k =
-    let n = closure_union k in
-    record { union = n; pair = λ p q i j. by_x y (x_each n i) (x_each n j) }
-
-t_closed : {G : ℕ → Type 0} {x v : ℕ} {c : Case} {u : ℕ} → UnitesT c → Closure (TGroup G v) u → TSide G x v c u
-t_closed y k =
-    let n = closure_union k in
-    record { union = n; pair = λ p q i j. by_t y (t_each n i) (t_each n j) }
-
--- a group with shared groups: the shared ones serve as x-groups and as t-groups
-x_joined : {G : ℕ → Type 0} {x v : ℕ} {c : Case} (a s : ℕ) → XGroup G x a → Closure (Shared G x v) s → XSide G x v c (bit_or a s)
-x_joined {G} {x} {v} {c} a s xa cs =
-    record { union = two_union a s (one_union xa) sx; pair = λ p q i j. by (in_either a s i) (in_either a s j) }
-  where
-    sx : UnionOf (XGroup G x) s
-    sx = union_more shared_x (closure_union cs)
-
-    st : UnionOf (TGroup G v) s
-    st = union_more shared_t (closure_union cs)
-
-    ax : {p : ℕ} → In p a → Covers G (bit_or a s) x p
-    ax i = covers_wider (within_left a s) (x_each (one_union xa) i)
-
-    sxp : {p : ℕ} → In p s → Covers G (bit_or a s) x p
-    sxp i = covers_wider (within_right a s) (x_each sx i)
-
-    stp : {p : ℕ} → In p s → WithTerm (Covers G) v (bit_or a s) p
-    stp i = term_wider (within_right a s) (t_each st i)
-
-    by : {p q : ℕ} → In p a ⊎ In p s → In q a ⊎ In q s → Linked (Covers G) x v c (bit_or a s) p q
-    by (inl i) (inl j) = before (covers_wider (within_left a s) (covers_own xa.group i j))
-    by (inl i) (inr j) = across (ax i) (stp j)
-    by (inr i) (inl j) = back (stp i) (ax j)
-    by (inr i) (inr j) = across (sxp i) (stp j)
-
-t_joined : {G : ℕ → Type 0} {x v : ℕ} {c : Case} (b s : ℕ) → TGroup G v b → Closure (Shared G x v) s → TSide G x v c (bit_or b s)
-t_joined {G} {x} {v} {c} b s tb cs =
-    record { union = two_union b s (one_union tb) st; pair = λ p q i j. by (in_either b s i) (in_either b s j) }
-  where
-    sx : UnionOf (XGroup G x) s
-    sx = union_more shared_x (closure_union cs)
-
-    st : UnionOf (TGroup G v) s
-    st = union_more shared_t (closure_union cs)
-
-    bt : {p : ℕ} → In p b → WithTerm (Covers G) v (bit_or b s) p
-    bt i = term_wider (within_left b s) (t_each (one_union tb) i)
-
-    sxp : {p : ℕ} → In p s → Covers G (bit_or b s) x p
-    sxp i = covers_wider (within_right b s) (x_each sx i)
-
-    stp : {p : ℕ} → In p s → WithTerm (Covers G) v (bit_or b s) p
-    stp i = term_wider (within_right b s) (t_each st i)
-
-    by : {p q : ℕ} → In p b ⊎ In p s → In q b ⊎ In q s → Linked (Covers G) x v c (bit_or b s) p q
-    by (inl i) (inl j) = before (covers_wider (within_left b s) (covers_own tb.group i j))
-    by (inl i) (inr j) = back (bt i) (sxp j)
-    by (inr i) (inl j) = across (sxp i) (bt j)
-    by (inr i) (inr j) = across (sxp i) (stp j)
-
-x_extended : {G : ℕ → Type 0} {x v : ℕ} {c : Case} {u : ℕ} → Extended (XGroup G x) (Shared G x v) u → XSide G x v c u
-x_extended (alone a) = x_alone a
-x_extended {G} {x} {v} {c} (joined k) =
-    subst (XSide G x v c) k.whole (x_joined k.left k.right k.in_left k.in_right)
-
-t_extended : {G : ℕ → Type 0} {x v : ℕ} {c : Case} {u : ℕ} → Extended (TGroup G v) (Shared G x v) u → TSide G x v c u
-t_extended (alone b) = t_alone b
-t_extended {G} {x} {v} {c} (joined k) =
-    subst (TSide G x v c) k.whole (t_joined k.left k.right k.in_left k.in_right)
+paired_more : {A B P Q : ℕ → Type 0} {u : ℕ} → Sub A P → Sub B Q → Paired A B u → Paired P Q u
+paired_more f g k =
+    record { left = k.left; right = k.right; in_left = f k.left k.in_left; in_right = g k.right k.in_right; whole = k.whole }
 
 -- each group that a case makes is the union of two such sides
-record Sides (G : ℕ → Type 0) (x v : ℕ) (c : Case) (u : ℕ) : Type 0 where
-  left : ℕ
-  right : ℕ
-  x_side : XSide G x v c left
-  t_side : TSide G x v c right
-  whole : bit_or left right ≡ u
+module _ (G : ℕ → Type 0) (a b : ℕ) where
+  left : {U : Type 0} → Sub (Extended (Side G a) (Shared G a b)) (NewSide G a b U)
+  left = side_extended (shared_left G a b) (shared_right G a b)
 
-sides : {G : ℕ → Type 0} {x v u : ℕ} {c : Case} {A B : ℕ → Type 0} → ((l : ℕ) → A l → XSide G x v c l) → ((r : ℕ) → B r → TSide G x v c r) → Paired A B u → Sides G x v c u
-sides f g k =
-    record {
-      left = k.left;
-      right = k.right;
-      x_side = f k.left k.in_left;
-      t_side = g k.right k.in_right;
-      whole = k.whole;
-    }
+  right : {U : Type 0} → Sub (Extended (Side G b) (Shared G a b)) (NewSide G b a U)
+  right = side_extended (shared_right G a b) (shared_left G a b)
 
-made_sides : {G : ℕ → Type 0} {x v : ℕ} (c : Case) (u : ℕ) → Made G x v c u → Sides G x v c u
-made_sides Free u m = sides (λ l. x_alone) (λ r. t_alone) m
-made_sides BothLinear u m = sides (λ l. x_extended) (λ r. t_extended) m
-made_sides PositionLinear u m = sides (λ l. x_closed tt) (λ r. t_extended) m
-made_sides TermLinear u m = sides (λ l. x_extended) (λ r. t_closed tt) m
-made_sides Neither u m = sides (λ l. x_closed tt) (λ r. t_closed tt) m
-
--- every group that a case makes holds x
-pub made_holds : (G : ℕ → Type 0) (x v : ℕ) (c : Case) (u : ℕ) → Made G x v c u → In x u
-made_holds G x v c u m =
-    let k = made_sides {G = G} {v = v} c u m in
-    let n = k.x_side.union in
-    rw (← k.whole) (in_left k.right (n.some_inside.each x n.some_told.holds))
+  made_sides : (c : Case) (u : ℕ) → Made G a b c u → Paired (NewSide G a b (UnitesLeft c)) (NewSide G b a (UnitesRight c)) u
+  made_sides Free u m = paired_more side_alone side_alone m
+  made_sides BothLinear u m = paired_more left right m
+  made_sides PositionLinear u m = paired_more (side_closed tt) right m
+  made_sides TermLinear u m = paired_more left (side_closed tt) m
+  made_sides Neither u m = paired_more (side_closed tt) (side_closed tt) m
 
 -- ---- from the new groups to the closed form
 
-both_linked : {G : ℕ → Type 0} {x v : ℕ} {c : Case} (l r : ℕ) {p q : ℕ} → XSide G x v c l → TSide G x v c r → In p l ⊎ In p r → In q l ⊎ In q r → Linked (Covers G) x v c (bit_or l r) p q
-both_linked l r {p} {q} s t (inl i) (inl j) = linked_wider (within_left l r) (s.pair p q i j)
-both_linked l r s t (inl i) (inr j) =
-    across (covers_wider (within_left l r) (x_each s.union i)) (term_wider (within_right l r) (t_each t.union j))
-both_linked l r s t (inr i) (inl j) =
-    back (term_wider (within_right l r) (t_each t.union i)) (covers_wider (within_left l r) (x_each s.union j))
-both_linked l r {p} {q} s t (inr i) (inr j) = linked_wider (within_right l r) (t.pair p q i j)
+module _ {C : ℕ → ℕ → ℕ → Type 0} {a b : ℕ} {c : Case} {w p q : ℕ} where
+  left_linked : Tie C b (UnitesLeft c) w p q → WithSide C a w p → WithSide C a w q → Linked C a b c w p q
+  left_linked (own k) s t = before k
+  left_linked (first k) s t = back k t
+  left_linked (second k) s t = across s k
+  left_linked (united y) s t = by_left y s t
 
-sides_cover : {G : ℕ → Type 0} {x v : ℕ} {c : Case} {w p q : ℕ} (l r : ℕ) → XSide G x v c l → TSide G x v c r → In p (bit_or l r) → In q (bit_or l r) → Within (bit_or l r) w → BindCovers (Covers G) x v c w p q
-sides_cover l r s t i j h =
-    met (covers_wider h (covers_wider (within_left l r) (x_some s.union)))
-    (covered_wider h (covered_wider (within_right l r) (t_some t.union)))
-    (linked_wider h (both_linked l r s t (in_either l r i) (in_either l r j)))
+  right_linked : Tie C a (UnitesRight c) w p q → WithSide C b w p → WithSide C b w q → Linked C a b c w p q
+  right_linked (own k) s t = before k
+  right_linked (first k) s t = across k t
+  right_linked (second k) s t = back s k
+  right_linked (united y) s t = by_right y s t
 
-new_cover : {G : ℕ → Type 0} {x v : ℕ} {c : Case} {w p q : ℕ} (u : ℕ) → NewGroup G x v c u → In p u → In q u → Within u w → BindCovers (Covers G) x v c w p q
+tie_more : {C : ℕ → ℕ → ℕ → Type 0} {b : ℕ} {U : Type 0} {w u p q : ℕ} → ((p q : ℕ) → C w p q → C u p q) → Tie C b U w p q → Tie C b U u p q
+tie_more f (own k) = own (f _ _ k)
+tie_more f (first k) = first (with_side_more f k)
+tie_more f (second k) = second (with_side_more f k)
+tie_more f (united y) = united y
+
+sides_cover : {G : ℕ → Type 0} {a b : ℕ} {c : Case} {w p q : ℕ} (l r : ℕ) → NewSide G a b (UnitesLeft c) l → NewSide G b a (UnitesRight c) r → In p (bit_or l r) → In q (bit_or l r) → Within (bit_or l r) w → BindCovers (Covers G) a b c w p q
+sides_cover {G} {a} {b} {c} {w} l r s t i j h =
+    met (side_some in_l s.union) (side_some in_r t.union) (by (in_either l r i) (in_either l r j))
+  where
+    in_l : Within l w
+    in_l = within_trans (within_left l r) h
+
+    in_r : Within r w
+    in_r = within_trans (within_right l r) h
+
+    by : {p q : ℕ} → In p l ⊎ In p r → In q l ⊎ In q r → Linked (Covers G) a b c w p q
+    by (inl i) (inl j) =
+        left_linked (tie_more (λ p q. covers_wider in_l) (s.pair _ _ i j)) (side_each in_l s.union i) (side_each in_l s.union j)
+    by (inl i) (inr j) = across (side_each in_l s.union i) (side_each in_r t.union j)
+    by (inr i) (inl j) = back (side_each in_r t.union i) (side_each in_l s.union j)
+    by (inr i) (inr j) =
+        right_linked (tie_more (λ p q. covers_wider in_r) (t.pair _ _ i j)) (side_each in_r t.union i) (side_each in_r t.union j)
+
+new_cover : {G : ℕ → Type 0} {a b : ℕ} {c : Case} {w p q : ℕ} (u : ℕ) → NewGroup G a b c u → In p u → In q u → Within u w → BindCovers (Covers G) a b c w p q
 new_cover u (rest k) i j h =
-    untouched (record { part = u; inside = h; without = k.without; apart = k.apart; covered = covers_own k.group i j })
-new_cover {c = c} u (made m) i j h =
-    let k = made_sides c u m in
-    sides_cover k.left k.right k.x_side k.t_side (rw k.whole i) (rw k.whole j) (rw k.whole h)
+    untouched (record { part = u; inside = h; left = k.left; right = k.right; covered = covers_own k.group i j })
+new_cover {G} {a} {b} {c} u (made m) i j h =
+    let k = made_sides G a b c u m in
+    sides_cover k.left k.right k.in_left k.in_right (rw k.whole i) (rw k.whole j) (rw k.whole h)
 
-pub bind_cover_to : {G : ℕ → Type 0} {x v : ℕ} {c : Case} {w p q : ℕ} → Covers (NewGroup G x v c) w p q → BindCovers (Covers G) x v c w p q
+pub bind_cover_to : {G : ℕ → Type 0} {a b : ℕ} {c : Case} {w p q : ℕ} → Covers (NewGroup G a b c) w p q → BindCovers (Covers G) a b c w p q
 bind_cover_to k = new_cover k.group k.told k.left k.right k.inside
 
 -- ---- and back
 
-x_group : {G : ℕ → Type 0} {w x p : ℕ} (k : Covers G w x p) → XGroup G x k.group
-x_group k = record { group = k.told; holds = k.left }
+-- one group of A or, where U holds, two
+data OneOrTwo (U : Type 0) (A : ℕ → Type 0) : ℕ → Type 0 where
+  single : {g : ℕ} → A g → OneOrTwo U A g
+  double : {g h : ℕ} → U → A g → A h → OneOrTwo U A (bit_or g h)
 
-t_group : {G : ℕ → Type 0} {v w y p : ℕ} (k : Covers G w y p) → In y v → TGroup G v k.group
-t_group {y = y} k h = record { group = k.told; meets = record { place = y; left = k.left; right = h } }
+just_one : {A : ℕ → Type 0} {u : ℕ} → OneOrTwo ⊥ A u → A u
+just_one (single k) = k
+just_one (double y k l) = absurd y
 
-two : {A B : ℕ → Type 0} (a b : ℕ) → A a → B b → Paired A B (bit_or a b)
-two a b s t = record { left = a; right = b; in_left = s; in_right = t; whole = refl }
+closed : {U : Type 0} {A : ℕ → Type 0} {u : ℕ} → OneOrTwo U A u → Closure A u
+closed (single k) = one k
+closed (double y k l) = more k (one l)
 
--- in every case an x-group and a t-group are united
-pair_made : {G : ℕ → Type 0} {x v a b : ℕ} (c : Case) → XGroup G x a → TGroup G v b → Made G x v c (bit_or a b)
-pair_made {a = a} {b = b} Free s t = two a b s t
-pair_made {a = a} {b = b} BothLinear s t = two a b (alone s) (alone t)
-pair_made {a = a} {b = b} PositionLinear s t = two a b (one s) (alone t)
-pair_made {a = a} {b = b} TermLinear s t = two a b (alone s) (one t)
-pair_made {a = a} {b = b} Neither s t = two a b (one s) (one t)
+pair : {A B : ℕ → Type 0} (l r : ℕ) → A l → B r → Paired A B (bit_or l r)
+pair l r s t = record { left = l; right = r; in_left = s; in_right = t; whole = refl }
 
-x_made : {G : ℕ → Type 0} {x v a a' b : ℕ} (c : Case) → UnitesX c → XGroup G x a → XGroup G x a' → TGroup G v b → Made G x v c (bit_or (bit_or a a') b)
-x_made Free y s s' t = absurd y
-x_made BothLinear y s s' t = absurd y
-x_made {a = a} {a' = a'} {b = b} PositionLinear y s s' t = two (bit_or a a') b (more s (one s')) (alone t)
-x_made TermLinear y s s' t = absurd y
-x_made {a = a} {a' = a'} {b = b} Neither y s s' t = two (bit_or a a') b (more s (one s')) (one t)
+-- in every case a group of each side are united, and before that two of a side where the case unites them
+united_made : {G : ℕ → Type 0} {a b : ℕ} (l r : ℕ) (c : Case) → OneOrTwo (UnitesLeft c) (Side G a) l → OneOrTwo (UnitesRight c) (Side G b) r → Made G a b c (bit_or l r)
+united_made l r Free s t = pair l r (just_one s) (just_one t)
+united_made l r BothLinear s t = pair l r (alone (just_one s)) (alone (just_one t))
+united_made l r PositionLinear s t = pair l r (closed s) (alone (just_one t))
+united_made l r TermLinear s t = pair l r (alone (just_one s)) (closed t)
+united_made l r Neither s t = pair l r (closed s) (closed t)
 
-t_made : {G : ℕ → Type 0} {x v a b b' : ℕ} (c : Case) → UnitesT c → XGroup G x a → TGroup G v b → TGroup G v b' → Made G x v c (bit_or a (bit_or b b'))
-t_made Free y s t t' = absurd y
-t_made BothLinear y s t t' = absurd y
-t_made PositionLinear y s t t' = absurd y
-t_made {a = a} {b = b} {b' = b'} TermLinear y s t t' = two a (bit_or b b') (alone s) (more t (one t'))
-t_made {a = a} {b = b} {b' = b'} Neither y s t t' = two a (bit_or b b') (one s) (more t (one t'))
-
--- an x-group and a t-group cover together what one of them holds
-pub pair_covers : {G : ℕ → Type 0} {x v a b w p q : ℕ} (c : Case) → XGroup G x a → TGroup G v b → Within a w → Within b w → In p a ⊎ In p b → In q a ⊎ In q b → Covers (NewGroup G x v c) w p q
-pair_covers {a = a} {b = b} c s t h k i j =
-    record { group = bit_or a b; told = made (pair_made c s t); left = either i; right = either j; inside = union_within h k }
+-- they cover together what one of them holds
+united_covers : {G : ℕ → Type 0} {a b l r w p q : ℕ} (c : Case) → OneOrTwo (UnitesLeft c) (Side G a) l → OneOrTwo (UnitesRight c) (Side G b) r → Within l w → Within r w → In p l ⊎ In p r → In q l ⊎ In q r → Covers (NewGroup G a b c) w p q
+united_covers {l = l} {r = r} c s t h k i j =
+    record { group = bit_or l r; told = made (united_made l r c s t); left = either i; right = either j; inside = union_within h k }
   where
-    either : {p : ℕ} → In p a ⊎ In p b → In p (bit_or a b)
-    either (inl i) = in_left b i
-    either (inr i) = in_right a i
+    either : {p : ℕ} → In p l ⊎ In p r → In p (bit_or l r)
+    either (inl i) = in_left r i
+    either (inr i) = in_right l i
 
-module _ {G : ℕ → Type 0} {x v w : ℕ} (c : Case) (at_x : Covers G w x x) (at_t : TermCovered (Covers G) v w) where
-  linked_covers : {p q : ℕ} → Linked (Covers G) x v c w p q → Covers (NewGroup G x v c) w p q
-  linked_covers (before k) =
-      elim (dec_in x k.group) [
-        | yes h ↦
-            pair_covers c (record { group = k.told; holds = h }) (t_group at_t.covered at_t.held) k.inside
-            at_t.covered.inside
-            (inl k.left)
-            (inl k.right)
-        | no n ↦
-            elim (dec_meets k.group v) [
-              | yes m ↦
-                  pair_covers c (x_group at_x) (record { group = k.told; meets = m }) at_x.inside k.inside (inr k.left)
-                  (inr k.right)
-              | no n' ↦
-                  record {
-                    group = k.group;
-                    told = rest (record { group = k.told; without = n; apart = n' });
-                    left = k.left;
-                    right = k.right;
-                    inside = k.inside;
-                  }
-            ]
-      ]
-  linked_covers (across k t) =
-      pair_covers c (x_group k) (t_group t.covered t.held) k.inside t.covered.inside (inl k.right)
-      (inr t.covered.right)
-  linked_covers (back t k) =
-      pair_covers c (x_group k) (t_group t.covered t.held) k.inside t.covered.inside (inr t.covered.right)
-      (inl k.right)
-  linked_covers (by_x y k l) =
-      let b = at_t.covered in
-      record {
-        group = bit_or (bit_or k.group l.group) b.group;
-        told = made (x_made c y (x_group k) (x_group l) (t_group b at_t.held));
-        left = in_left b.group (in_left l.group k.right);
-        right = in_left b.group (in_right k.group l.right);
-        inside = union_within (union_within k.inside l.inside) b.inside;
-      }
-  linked_covers (by_t y s t) =
-      let k = s.covered in
-      let l = t.covered in
-      record {
-        group = bit_or at_x.group (bit_or k.group l.group);
-        told = made (t_made c y (x_group at_x) (t_group k s.held) (t_group l t.held));
-        left = in_right at_x.group (in_left l.group k.right);
-        right = in_right at_x.group (in_right k.group l.right);
-        inside = union_within at_x.inside (union_within k.inside l.inside);
-      }
+-- the groups that cover positions of a side are groups of it
+lone : {G : ℕ → Type 0} {U : Type 0} {a w p q : ℕ} (k : Covers G w p q) → In p a → OneOrTwo U (Side G a) k.group
+lone k h = single (side_group k.told k.left h)
 
-rest_covers : {G : ℕ → Type 0} {x v : ℕ} {c : Case} {w p q : ℕ} → Apart (Covers G) x v w p q → Covers (NewGroup G x v c) w p q
-rest_covers a =
-    let k = a.covered in
-    record {
-      group = k.group;
-      told =
-          rest (record {
-            group = k.told;
-            without = λ i. a.without (k.inside.each _ i);
-            apart = λ m. a.apart (record { place = m.place; left = k.inside.each m.place m.left; right = m.right });
-          });
-      left = k.left;
-      right = k.right;
-      inside = within_trans k.inside a.inside;
-    }
+both : {G : ℕ → Type 0} {U : Type 0} {a w p q : ℕ} → U → (s : WithSide (Covers G) a w p) (t : WithSide (Covers G) a w q) → OneOrTwo U (Side G a) (bit_or s.covered.group t.covered.group)
+both y s t =
+    double y (side_group s.covered.told s.covered.left s.held) (side_group t.covered.told t.covered.left t.held)
 
-pub bind_cover_from : {G : ℕ → Type 0} {x v : ℕ} {c : Case} {w p q : ℕ} → BindCovers (Covers G) x v c w p q → Covers (NewGroup G x v c) w p q
-bind_cover_from (untouched a) = rest_covers a
-bind_cover_from {c = c} (met k t l) = linked_covers c k t l
+linked_covers : {G : ℕ → Type 0} {a b : ℕ} (c : Case) {w p q : ℕ} → SideCovered (Covers G) a w → SideCovered (Covers G) b w → Linked (Covers G) a b c w p q → Covers (NewGroup G a b c) w p q
+linked_covers {G} {a} {b} c {w} {p} {q} l r (before k) = by (dec_meets k.group a) (dec_meets k.group b)
+  where
+    by : Dec (Meets k.group a) → Dec (Meets k.group b) → Covers (NewGroup G a b c) w p q
+    by (yes m) n =
+        united_covers c (single (side_group k.told m.left m.right)) (lone r.covered r.held) k.inside r.covered.inside
+        (inl k.left)
+        (inl k.right)
+    by (no n) (yes m) =
+        united_covers c (lone l.covered l.held) (single (side_group k.told m.left m.right)) l.covered.inside k.inside
+        (inr k.left)
+        (inr k.right)
+    by (no n) (no m) =
+        covers_wider k.inside (covers_own (rest (record { group = k.told; left = n; right = m })) k.left k.right)
+linked_covers c l r (across s t) =
+    united_covers c (lone s.covered s.held) (lone t.covered t.held) s.covered.inside t.covered.inside (inl s.covered.right)
+    (inr t.covered.right)
+linked_covers c l r (back t s) =
+    united_covers c (lone s.covered s.held) (lone t.covered t.held) s.covered.inside t.covered.inside (inr t.covered.right)
+    (inl s.covered.right)
+linked_covers c l r (by_left y s t) =
+    united_covers c (both y s t) (lone r.covered r.held) (union_within s.covered.inside t.covered.inside) r.covered.inside
+    (inl (in_left t.covered.group s.covered.right))
+    (inl (in_right s.covered.group t.covered.right))
+linked_covers c l r (by_right y s t) =
+    united_covers c (lone l.covered l.held) (both y s t) l.covered.inside (union_within s.covered.inside t.covered.inside)
+    (inr (in_left t.covered.group s.covered.right))
+    (inr (in_right s.covered.group t.covered.right))
 
--- ---- what is covered after a bind hangs on what was covered before it alone
+pub bind_cover_from : {G : ℕ → Type 0} {a b : ℕ} {c : Case} {w p q : ℕ} → BindCovers (Covers G) a b c w p q → Covers (NewGroup G a b c) w p q
+bind_cover_from (untouched s) =
+    let k = s.covered in
+    covers_wider (within_trans k.inside s.inside)
+    (covers_own
+    (rest (record { group = k.told; left = λ m. s.left (meets_more m k.inside); right = λ m. s.right (meets_more m k.inside) }))
+    k.left
+    k.right)
+bind_cover_from {c = c} (met s t l) = linked_covers c s t l
 
-module _ {C D : ℕ → ℕ → ℕ → Type 0} (f : (w p q : ℕ) → C w p q → D w p q) where
-  with_term_more : {v w q : ℕ} → WithTerm C v w q → WithTerm D v w q
-  with_term_more {w = w} {q = q} t = record { place = t.place; held = t.held; covered = f w t.place q t.covered }
-
-  linked_more : {x v : ℕ} {c : Case} {w p q : ℕ} → Linked C x v c w p q → Linked D x v c w p q
-  linked_more (before k) = before (f _ _ _ k)
-  linked_more (across k t) = across (f _ _ _ k) (with_term_more t)
-  linked_more (back t k) = back (with_term_more t) (f _ _ _ k)
-  linked_more (by_x y k l) = by_x y (f _ _ _ k) (f _ _ _ l)
-  linked_more (by_t y s t) = by_t y (with_term_more s) (with_term_more t)
-
-  pub bind_covers_more : {x v : ℕ} {c : Case} {w p q : ℕ} → BindCovers C x v c w p q → BindCovers D x v c w p q
-  bind_covers_more (untouched a) =
-      untouched (record { part = a.part; inside = a.inside; without = a.without; apart = a.apart; covered = f _ _ _ a.covered })
-  bind_covers_more (met k t l) =
-      met (f _ _ _ k) (record { place = t.place; held = t.held; covered = f _ _ _ t.covered }) (linked_more l)
-
-pub bind_same : {G H : ℕ → Type 0} {x v : ℕ} {c : Case} → SameCover G H → SameCover (NewGroup G x v c) (NewGroup H x v c)
+pub bind_same : {G H : ℕ → Type 0} {a b : ℕ} {c : Case} → SameCover G H → SameCover (NewGroup G a b c) (NewGroup H a b c)
 bind_same s =
     record {
       to = λ w p q k. bind_cover_from (bind_covers_more s.to (bind_cover_to k));
       from = λ w p q k. bind_cover_from (bind_covers_more s.from (bind_cover_to k));
     }
 
--- ---- what a bind makes
+-- ---- the window without both masks
 
-pub bound_cover_to : {d e : Told} {x : ℕ} {t : Term} {w p q : ℕ} (b : Bound d x t e) → Covers (Group e) w p q → BindCovers (Covers (Group d)) x t.held b.case w p q
-bound_cover_to b k = bind_cover_to (covers_more b.groups_only k)
-
-pub bound_cover_from : {d e : Told} {x : ℕ} {t : Term} {w p q : ℕ} (b : Bound d x t e) → BindCovers (Covers (Group d)) x t.held b.case w p q → Covers (Group e) w p q
-bound_cover_from b k = covers_more b.groups_made (bind_cover_from k)
-
--- ---- the window without x and the term
-
-pub apart_window : {G : ℕ → Type 0} {x v w p q : ℕ} → Apart (Covers G) x v w p q → Covers G (minus w (bit_or (2 ^ x) v)) p q
-apart_window {x = x} {v = v} {w = w} a = covers_wider (record { each = λ r i. in_lacking (a.inside.each r i) (out r i) }) a.covered
+pub apart_window : {G : ℕ → Type 0} {a b w p q : ℕ} → CoversApart (Covers G) a b w p q → Covers G (without w (bit_or a b)) p q
+apart_window {a = a} {b = b} s =
+    covers_wider (record { each = λ r i. in_lacking (s.inside.each r i) (λ j. out i (in_either a b j)) }) s.covered
   where
-    out : (r : ℕ) → In r a.part → In r (bit_or (2 ^ x) v) → ⊥
-    out r i j =
-        elim (in_either (2 ^ x) v j) [
-          | inl k ↦ a.without (subst (λ y. In y a.part) (single_in k) i)
-          | inr k ↦ a.apart (record { place = r; left = i; right = k })
-        ]
+    out : {r : ℕ} → In r s.part → In r a ⊎ In r b → ⊥
+    out {r} i (inl j) = s.left (record { place = r; left = i; right = j })
+    out {r} i (inr j) = s.right (record { place = r; left = i; right = j })
 
-pub window_apart : {G : ℕ → Type 0} {p q : ℕ} (x v w : ℕ) → Covers G (minus w (bit_or (2 ^ x) v)) p q → Apart (Covers G) x v w p q
-window_apart x v w k =
-    let u = bit_or (2 ^ x) v in
+pub window_apart : {G : ℕ → Type 0} {p q : ℕ} (a b w : ℕ) → Covers G (without w (bit_or a b)) p q → CoversApart (Covers G) a b w p q
+window_apart a b w k =
+    let u = bit_or a b in
     record {
-      part = minus w u;
+      part = without w u;
       inside = record { each = λ r i. (lacking_in w u i).0 };
-      without = λ i. (lacking_in w u i).1 (in_left v (in_single x));
-      apart = λ m. (lacking_in w u m.left).1 (in_right (2 ^ x) m.right);
+      left = λ m. (lacking_in w u m.left).1 (in_left b m.right);
+      right = λ m. (lacking_in w u m.left).1 (in_right a m.right);
       covered = k;
     }

@@ -6,8 +6,7 @@ use Rattle.domain.specs.Masks.{In, Within}
 use Rattle.domain.specs.Told.{Told, Group}
 use Rattle.domain.specs.Coverage.{Covers, SameCover, Alike, Core, CoreFits}
 use Rattle.domain.proofs.Bits.{within_le, same_mask, within_trans}
-use Rattle.coverage.proofs.Decided.{dec_in, dec_within}
-use Rattle.coverage.proofs.Searching.{Least, least}
+use Rattle.coverage.proofs.Searching.{dec_in, dec_within, Least, least}
 use Rattle.coverage.proofs.Cover.{covers_own, same_turned, same_trans, same_groups}
 
 -- ---- the core covers the same pairs

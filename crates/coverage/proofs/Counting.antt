@@ -1,19 +1,14 @@
 -- Lists in which nothing stands twice, and the number of core groups.
-use Rattle.std.proofs.Common.{◌≡◌, ℕ, suc, ◌+◌, ◌*◌, ◌%◌, ◌^◌, ◌<◌, ◌≤◌, ◌≢◌, ◌⊎◌, List, [], ◌∷◌, length, None, Ok, sym, refl, subst, inl, inr, le_antisymm, arith}
+use Rattle.std.proofs.Common.{◌≡◌, ℕ, suc, ◌+◌, ◌*◌, ◌%◌, ◌^◌, ◌<◌, ◌≤◌, ◌≢◌, ◌⊎◌, List, [], ◌∷◌, length, sym, refl, subst, inl, inr, le_antisymm, arith}
 use native.Mathlib.Decide.{ℕ_discrete}
 use Rattle.std.proofs.lemmas.Nat.{one_shl}
 use Rattle.domain.specs.Coverage.{Core, Listed, here, there, CoreFits, SameCover}
-use Rattle.domain.specs.Refusals.{first_of}
-use Rattle.domain.specs.Requests.{open_tests, Gives}
-use Rattle.domain.specs.Tables.{told_of}
-use Rattle.domain.specs.Told.{Group}
+use Rattle.domain.specs.Tables.{TableGroup}
+use Rattle.domain.specs.declared.limits.TheConstants.{MOST_POSITIONS}
 use Rattle.domain.proofs.Laws.{of_group}
-use Rattle.domain.proofs.Refusing.{counted_few}
-use Rattle.coverage.specs.Walks.{TableGroup}
 use Rattle.coverage.specs.Counts.{Distinct, none, more, CoreCount}
 use Rattle.coverage.proofs.Cover.{same_turned}
 use Rattle.coverage.proofs.CoreLeast.{core_kept}
-use Rattle.coverage.proofs.Pairs.{core_as}
 
 -- ---- lists
 
@@ -133,28 +128,14 @@ count_end b c =
       all = λ h k. c.all h k (b h k);
     }
 
--- the count of a set with the same groups
-pub count_as : {G H : ℕ → Type 0} {k : ℕ} → ((h : ℕ) → G h → H h) → ((h : ℕ) → H h → G h) → CoreCount G k → CoreCount H k
-count_as f b c =
-    record {
-      groups = c.groups;
-      counted = c.counted;
-      once = c.once;
-      only = λ g l. core_as f b (c.only g l);
-      all = λ g k. c.all g (core_as b f k);
-    }
-
 -- ---- tables
 
 -- a core group of a table is not empty, and is a set of its positions
 pub core_range : (n : ℕ) (t : List ℕ) (g : ℕ) → Core (TableGroup n t) g → (0 < g) × (g < 2 ^ n)
-core_range n t g c = let r = of_group n t 0 0 g c.told in (r.0, r.1)
-
--- a count that was given: the number of positions was not refused
-pub counted_core : {k : ℕ} (n : ℕ) (t : List ℕ) → Gives (first_of (open_tests n)) (Ok k) (λ k. (f l : ℕ) → CoreCount (Group (told_of n t f l)) k)
-    → (first_of (open_tests n) ≡ None) × (n < 13) × ((f l : ℕ) → CoreCount (Group (told_of n t f l)) k)
-counted_core {k} n t h = counted_few n k (λ k. (f l : ℕ) → CoreCount (Group (told_of n t f l)) k) h
+core_range n t g c = let r = of_group n t g c.told in (r.0, r.1)
 
 -- a loop that ends at 2 to the power n, as code computes it, is past every core group
-pub core_below : (n : ℕ) (t : List ℕ) (g : ℕ) → n < 13 → 1 * 2 ^ n % 65536 ≤ g → (h : ℕ) → Core (TableGroup n t) h → h < g
-core_below n t g few past h k = omega (arith, (core_range n t h k).1, one_shl n 16 (omega arith), past)
+pub core_below : (n : ℕ) (t : List ℕ) (g : ℕ) → n ≤ MOST_POSITIONS → 1 * 2 ^ n % 2 ^ 16 ≤ g → (h : ℕ) → Core (TableGroup n t) h → h < g
+core_below n t g few past h k =
+    let small : n ≤ 12 = few in
+    omega (arith, (core_range n t h k).1, one_shl n 16 (omega arith), past)

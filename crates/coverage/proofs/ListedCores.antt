@@ -8,7 +8,6 @@ use Rattle.domain.specs.declared.refusal.Refusal.{Refusal}
 use Rattle.domain.specs.Lists.{Above, none, next}
 use Rattle.coverage.proofs.Counting.{once_le, empty_listed}
 use Rattle.coverage.proofs.ExistsFit.{above_distinct}
-use Rattle.coverage.proofs.Pairs.{core_as}
 use Rattle.coverage.specs.Listing.{FillsCore, WritesOr}
 
 listed_front : {g : ℕ} {gs : List ℕ} (h : ℕ) → Listed g gs → Listed g (gs ++ h ∷ [])
@@ -133,18 +132,3 @@ fills_given (Some e) G list list' k h = absurd (let q = h.0 in cc)
 pub fills_over : {G : ℕ → Type 0} {slots slots' list list' : List ℕ} {used k : ℕ} → slots ≡ list → slots' ≡ list' → k ≡ used
     → FillsCore G slots slots' used → FillsCore G list list' k
 fills_over p q r w = rw (p, q, ← r) at w
-
--- a set with the same groups is filled in alike
-pub fills_as : {G H : ℕ → Type 0} {list list' : List ℕ} {k : ℕ} → ((h : ℕ) → G h → H h) → ((h : ℕ) → H h → G h)
-    → FillsCore G list list' k → FillsCore H list list' k
-fills_as to from w =
-    record {
-      groups = w.groups;
-      core = record {
-        only = λ g l. core_as to from (w.core.only g l);
-        all = λ g c. w.core.all g (core_as from to c);
-        ascending = w.core.ascending;
-      };
-      counted = w.counted;
-      at_start = w.at_start;
-    }

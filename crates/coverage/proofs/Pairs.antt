@@ -85,15 +85,3 @@ closed_core small past k c =
           k.none c.q c.p (omega (arith, in_below 16 c.right small)) (omega arith) (open_turned (core_open c))
       | no h ↦ k.none c.p c.q (omega (arith, in_below 16 c.left small)) (omega arith) (core_open c)
     ]
-
--- the core of a set with the same groups
-pub core_as : {G H : ℕ → Type 0} {g : ℕ} → ((h : ℕ) → G h → H h) → ((h : ℕ) → H h → G h) → Core G g → Core H g
-core_as {g = g} f b c =
-    record {
-      told = f g c.told;
-      p = c.p;
-      q = c.q;
-      left = c.left;
-      right = c.right;
-      uncovered = λ h t w ne i j. c.uncovered h (b h t) w ne i j;
-    }

@@ -1,5 +1,5 @@
 use Rattle.std.proofs.Common.{◌<◌}
-use Rattle.coverage.specs.Walks.{TableGroup}
+use Rattle.domain.specs.Tables.{TableGroup}
 use Rattle.coverage.proofs.Counting.{CountedTo}
 use Rattle.coverage.proofs.groups.Groups.core_count.Given as goal
 
