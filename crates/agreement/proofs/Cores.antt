@@ -1,7 +1,6 @@
 -- A set of groups has one core list, and alike descriptions have the same.
 use Rattle.std.proofs.Common.{◌≡◌, ℕ, ◌<◌, List, [], ◌∷◌, sym, refl, ap, ◌∙◌, inl, inr, arith}
 use Rattle.domain.specs.Coverage.{Listed, here, there, Core}
-use Rattle.domain.specs.Told.{Told, Group}
 use Rattle.domain.specs.Coverage.{CoreList}
 use Rattle.domain.specs.Lists.{Above, next}
 use Rattle.coverage.proofs.Counting.{listed_cases, empty_listed}
@@ -38,7 +37,7 @@ one_list last last' (g ∷ gs) (h ∷ hs) (next p a) (next q b) to from =
     ap (λ (x : ℕ). x ∷ gs) same ∙ ap (λ (l : List ℕ). h ∷ l) rest
 
 -- the core lists of alike descriptions are one
-pub one_core : {d e : Told} (gs hs : List ℕ) → ((g : ℕ) → Core (Group d) g → Core (Group e) g) → ((g : ℕ) → Core (Group e) g → Core (Group d) g)
-    → CoreList (Group d) gs → CoreList (Group e) hs → gs ≡ hs
+pub one_core : {G H : ℕ → Type 0} (gs hs : List ℕ) → ((g : ℕ) → Core G g → Core H g) → ((g : ℕ) → Core H g → Core G g)
+    → CoreList G gs → CoreList H hs → gs ≡ hs
 one_core gs hs to from c k =
     one_list 0 0 gs hs c.ascending k.ascending (λ g l. k.all g (to g (c.only g l))) (λ g l. c.all g (from g (k.only g l)))

@@ -1,9 +1,10 @@
 -- Calls given one after the other.
 use Rattle.std.proofs.Common.{◌≡◌, ℕ, ◌+◌, ◌<◌, List, [], ◌∷◌, ◌++◌, map, length, get_or, take, drop, set, sym, refl, ap, ◌∙◌, subst, arith, drop-drop, drop-set-lt}
 use Rattle.std.proofs.lemmas.List.{take_more_set, map_push, map_more}
+use Rattle.std.specs.Borrow.{Bor}
 use Rattle.domain.specs.Told.{Told}
 use Rattle.agreement.proofs.Reckoned.{reckoned_told}
-use Rattle.agreement.specs.Giving.{Reply, call_of, calls_of, answer_of, Rest, Lent, Held, UnderTheLaws}
+use Rattle.agreement.specs.Giving.{Reply, call_of, calls_of, answer_of, StaysBut, Lent, Held, UnderTheLaws}
 use Rattle.agreement.specs.Reckoning.{Given}
 use Rattle.agreement.specs.Sessions.{Call, Answer, Called, Session, done, calls}
 use Rattle.agreement.specs.declared.call.KeeperCall.{KeeperCall}
@@ -14,8 +15,8 @@ session_more c a done h = calls h done
 session_more c a (calls g gs) h = calls g (session_more c a gs h)
 
 lent_more : (given : List (Reply × List ℕ)) (first last next : List ℕ) (a : Reply)
-    → Lent first given last → Rest a last next → Lent first (given ++ (a, next) ∷ []) next
-lent_more [] first last next a h r = (subst (λ (l : List ℕ). Rest a l next) h r, refl)
+    → Lent first given last → StaysBut a last next → Lent first (given ++ (a, next) ∷ []) next
+lent_more [] first last next a h r = (subst (λ (l : List ℕ). StaysBut a l next) h r, refl)
 lent_more (x ∷ given) first last next a h r = (h.0, lent_more given x.1 last next a h.1 r)
 
 pub held_none : {capacity : ℕ} {d : Told} (list : List ℕ) (answers : List Reply) → Held capacity [] 0 d d list list answers answers
@@ -25,11 +26,11 @@ abbrev read : Reply × List ℕ → Answer
 read x = answer_of x.0 x.1
 
 -- one more call, by a keeper of that capacity still, with scratch and a list of the same lengths still
-pub held_more : (capacity scratch room : ℕ) (cs : List KeeperCall) (i : ℕ) (before d e : Told) (list last next : List ℕ)
-    (answers present : List Reply) (c : KeeperCall) (a : Reply) (capacity' scratch' : ℕ)
+pub held_more : (capacity scratch room : ℕ) (cs : List (KeeperCall (Bor (List ℕ)))) (i : ℕ) (before d e : Told) (list last next : List ℕ)
+    (answers present : List Reply) (c : KeeperCall (Bor (List ℕ))) (a : Reply) (capacity' scratch' : ℕ)
     → capacity' ≡ capacity → scratch' ≡ scratch → length last ≡ room → i < length cs → i < length present
     → Held capacity (calls_of scratch room (take i cs)) i before d list last answers present
-    → Called capacity' (call_of scratch' (length last) (get_or cs i c)) d (answer_of a next) e → Rest a last next
+    → Called capacity' (call_of scratch' (length last) (get_or cs i c)) d (answer_of a next) e → StaysBut a last next
     → Held capacity (calls_of scratch room (take (i + 1) cs)) (i + 1) before e list next answers (set present i a)
 held_more k s m cs i before d e list last next answers present c a k' s' p q l here place h called rest =
     let call = call_of s m (get_or cs i c) in

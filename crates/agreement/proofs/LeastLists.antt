@@ -26,11 +26,10 @@ write_out_least k t list list' (Ok w) h =
     λ n cs d given reckoned.
     let alike : Alike d t = reckoned_told reckoned given in
     record {
-      groups = h.3.0;
-      count = h.3.2;
-      at_start = h.3.4;
-      free = h.1 ∙ sym alike.free;
-      linear = h.2 ∙ sym alike.linear;
-      least = least_cover d h.3.0 (core_moved (alike_turned alike) h.3.1);
+      groups = h.2.0;
+      count = h.2.2;
+      at_start = h.2.4;
+      marks = h.1 ∙ sym alike.marks;
+      least = least_cover d h.2.0 (core_moved (alike_turned alike) h.2.1);
     }
 write_out_least k t list list' (Err f) h = tt

@@ -11,7 +11,8 @@ use Rattle.agreement.proofs.Calls.{session_same}
 use Rattle.agreement.proofs.Reckoned.{reckoned_told}
 use Rattle.agreement.proofs.Rules.{reckoned_lawful, reckoned_positions}
 use Rattle.agreement.specs.Laws.{NothingTellsApart, AlikeAreNotToldApart}
-use Rattle.agreement.specs.Sessions.{write_out, Answer, wrote, Session, done, calls}
+use Rattle.agreement.specs.Sessions.{Call, Answer, wrote, Session, done, calls}
+use Rattle.agreement.specs.declared.call.KeeperCall.TheVariants.{WriteOut}
 
 -- a core list of one of two alike descriptions is one of the other
 pub core_moved : {d e : Told} {gs : List ℕ} → Alike d e → CoreList (Group d) gs → CoreList (Group e) gs
@@ -22,25 +23,29 @@ core_moved h c =
       ascending = c.ascending;
     }
 
+-- a write-out into a list of so many entries
+writing : ℕ → Call
+writing room = record { call = WriteOut; scratch = 0; room = room }
+
 -- what a write-out answers where the list is long enough
 wrote_of : (t : Told) → List ℕ → Answer
-wrote_of t gs = wrote (length gs) t.free t.linear gs
+wrote_of t gs = wrote (length gs) t.marks gs
 
 opened_some : (t : Told) → 0 < t.n → opened t ≡ true
 opened_some t h = ap not (ne_eqb t.n 0 (λ e. omega arith))
 
 writes_core : (capacity room : ℕ) (t : Told) (gs : List ℕ) → 0 < t.n → CoreList (Group t) gs → length gs ≤ room
-    → Session capacity (write_out room ∷ []) t (wrote_of t gs ∷ []) t
-unfolding wrote_of
+    → Session capacity (writing room ∷ []) t (wrote_of t gs ∷ []) t
+unfolding (wrote_of, writing)
 writes_core k room t gs some c fits =
     calls
     (record {
       list = list;
       list' = gs ++ drop (length gs) list;
-      result = Ok (record { count = length gs; free = t.free; linear = t.linear });
+      result = Ok (record { count = length gs; marks = t.marks });
       long = length-replicate room 0;
-      promise = (opened_some t some, refl, refl, (gs, c, refl, subst (λ (k : ℕ). length gs ≤ k) (sym (length-replicate room 0)) fits, refl));
-      answer = ap (λ (l : List ℕ). wrote (length gs) t.free t.linear l) (sym (take_at gs (drop (length gs) list) (length gs) refl));
+      promise = (opened_some t some, refl, (gs, c, refl, subst (λ (k : ℕ). length gs ≤ k) (sym (length-replicate room 0)) fits, refl));
+      answer = ap (λ (l : List ℕ). wrote (length gs) t.marks l) (sym (take_at gs (drop (length gs) list) (length gs) refl));
       same = refl;
     })
     done
@@ -49,7 +54,7 @@ writes_core k room t gs some c fits =
     list = replicate room 0
 
 pub not_told_apart : (capacity : ℕ) (s t : Told) → AlikeAreNotToldApart capacity s t
-unfolding wrote_of
+unfolding (wrote_of, writing)
 not_told_apart k s t n cs ds d e gs rd gt re = (forth, back)
   where
     ds' : Alike d s
@@ -74,18 +79,16 @@ not_told_apart k s t n cs ds d e gs rd gt re = (forth, back)
         let room : ℕ = length c.0 + length f.0 in
         let one = writes_core k room s c.0 (omega arith) (core_moved ds' c.1) (omega arith) in
         let two = writes_core k room t f.0 (omega arith) (core_moved et f.1) (omega arith) in
-        agree c.0 f.0 c.1 f.1 dn en (same (write_out room ∷ []) (wrote_of s c.0 ∷ []) (wrote_of t f.0 ∷ []) s t one two)
+        agree c.0 f.0 c.1 f.1 dn en (same (writing room ∷ []) (wrote_of s c.0 ∷ []) (wrote_of t f.0 ∷ []) s t one two)
       where
         agree : (gs hs : List ℕ) → CoreList (Group d) gs → CoreList (Group e) hs → d.n ≡ n → e.n ≡ n
             → wrote_of s gs ∷ [] ≡ wrote_of t hs ∷ [] → Alike d e
         agree gs hs c f dn en answers =
-            let free_same : s.free ≡ t.free = cc in
-            let linear_same : s.linear ≡ t.linear = cc in
+            let marks_same : s.marks ≡ t.marks = cc in
             let core_same : gs ≡ hs = cc in
             record {
               positions = dn ∙ sym en;
-              free = ds'.free ∙ free_same ∙ sym et.free;
-              linear = ds'.linear ∙ linear_same ∙ sym et.linear;
+              marks = ds'.marks ∙ marks_same ∙ sym et.marks;
               cover = same_core d e
                   (λ g i. f.only g (subst (λ (l : List ℕ). Listed g l) core_same (c.all g i)))
                   (λ g i. c.only g (subst (λ (l : List ℕ). Listed g l) (sym core_same) (f.all g i)));

@@ -1,5 +1,5 @@
 -- Comparing two keepers by what they write out.
-use Rattle.std.specs.Prelude.{◌≡◌, ℕ, Bool, List, Ok, Err, Decides, Result}
+use Rattle.std.specs.Prelude.{◌≡◌, ℕ, Bool, List, ◌↔◌, Ok, Err, IsTrue, Result}
 use Rattle.domain.specs.Coverage.{SameCover}
 use Rattle.domain.specs.Told.{Told, Group}
 use Rattle.keeper.specs.Calls.{Writes}
@@ -8,14 +8,13 @@ use Rattle.keeper.specs.declared.write_out.WrittenOut.{WrittenOut}
 
 -- the same marks, and the same pairs covered in every window
 pub record SameTold (s t : Told) : Type 0 where
-  pub free : s.free ≡ t.free
-  pub linear : s.linear ≡ t.linear
+  pub marks : s.marks ≡ t.marks
   pub cover : SameCover (Group s) (Group t)
 
 -- the second keeper writes out only where the first is not refused; the answer is yes exactly when both tell the same
 abbrev pub Answered : Told → Told → Result WrittenOut KeeperFault → Result Bool KeeperFault → Type 0
 Answered s t (Err f) r = r ≡ Err f
-Answered s t (Ok w) r = (yes' : Bool) × (r ≡ Ok yes') × Decides yes' (SameTold s t)
+Answered s t (Ok w) r = (yes' : Bool) × (r ≡ Ok yes') × (IsTrue yes' ↔ SameTold s t)
 
 abbrev pub Second : Told → Told → List ℕ → List ℕ → Result WrittenOut KeeperFault → Result Bool KeeperFault → Type 0
 Second s t list list' (Err f) r = (list' ≡ list) × (r ≡ Err f)

@@ -1,34 +1,29 @@
 -- Calls and answers that are given as values, read as those of a session.
 use Rattle.std.specs.Prelude.{◌≡◌, ℕ, List, [], ◌∷◌, map, take, drop, Ok, Err, Result}
+use Rattle.std.specs.Borrow.{Bor}
+use Rattle.domain.specs.Changes.{lent_change}
 use Rattle.domain.specs.Coverage.{Alike}
 use Rattle.domain.specs.Opening.{New}
 use Rattle.domain.specs.Told.{Told}
 use Rattle.agreement.specs.Reckoning.{Reckoned, Given}
-use Rattle.agreement.specs.Sessions.{Call, bind, join, forget, ground, free, linear, pair, write_out, Answer, accepted, says, refused, wrote, Session}
+use Rattle.agreement.specs.Sessions.{Call, Answer, accepted, says, refused, wrote, Session}
 use Rattle.agreement.specs.declared.call.KeeperCall.{KeeperCall}
-use Rattle.agreement.specs.declared.call.KeeperCall.TheVariants.{Bind, Join, Forget, Ask, WriteOut}
+use Rattle.agreement.specs.declared.call.KeeperCall.TheVariants.{Change, Ask, WriteOut}
 use Rattle.agreement.specs.declared.call.KeeperAnswer.{KeeperAnswer}
 use Rattle.agreement.specs.declared.call.KeeperAnswer.TheVariants.{Accepted, Says, Wrote}
 use Rattle.keeper.specs.declared.fault.KeeperFault.{KeeperFault}
-use Rattle.keeper.specs.declared.question.Question.{Question}
-use Rattle.keeper.specs.declared.question.Question.TheVariants.{Ground, Free, Linear, Pair}
 
--- a question as a call
-abbrev pub question_call : Question → Call
-question_call (Ground p) = ground p
-question_call (Free p) = free p
-question_call (Linear p) = linear p
-question_call (Pair p q) = pair p q
+-- a call whose groups lie in a slice that is lent
+abbrev pub lent_call : KeeperCall (Bor (List ℕ)) → KeeperCall (List ℕ)
+lent_call (Change c) = Change (lent_change c)
+lent_call (Ask q) = Ask q
+lent_call WriteOut = WriteOut
 
 -- a call, with the lengths of the scratch and of the list that are lent
-abbrev pub call_of : ℕ → ℕ → KeeperCall → Call
-call_of scratch room (Bind x t) = bind x t scratch
-call_of scratch room (Join other) = join other.free other.linear other.groups.now scratch
-call_of scratch room (Forget m) = forget m scratch
-call_of scratch room (Ask q) = question_call q
-call_of scratch room WriteOut = write_out room
+abbrev pub call_of : (scratch room : ℕ) → KeeperCall (Bor (List ℕ)) → Call
+call_of scratch room c = record { call = lent_call c; scratch = scratch; room = room }
 
-abbrev pub calls_of : ℕ → ℕ → List KeeperCall → List Call
+abbrev pub calls_of : (scratch room : ℕ) → List (KeeperCall (Bor (List ℕ))) → List Call
 calls_of scratch room cs = map (call_of scratch room) cs
 
 -- what a call given as a value comes to: an answer or the keeper's fault
@@ -39,24 +34,25 @@ Reply = Result KeeperAnswer KeeperFault
 abbrev pub answer_of : Reply → List ℕ → Answer
 answer_of (Ok Accepted) list = accepted
 answer_of (Ok (Says yes')) list = says yes'
-answer_of (Ok (Wrote w)) list = wrote w.count w.free w.linear (take w.count list)
+answer_of (Ok (Wrote w)) list = wrote w.count w.marks (take w.count list)
 answer_of (Err f) list = refused f.refusal
 
--- the lent list changes in the groups of a write-out only
-abbrev pub Rest : Reply → List ℕ → List ℕ → Type 0
-Rest (Ok Accepted) list list' = list' ≡ list
-Rest (Ok (Says yes')) list list' = list' ≡ list
-Rest (Ok (Wrote w)) list list' = drop w.count list' ≡ drop w.count list
-Rest (Err f) list list' = list' ≡ list
+-- the lent list stays, but for the groups of a write-out
+abbrev pub StaysBut : Reply → List ℕ → List ℕ → Type 0
+StaysBut (Ok Accepted) list list' = list' ≡ list
+StaysBut (Ok (Says yes')) list list' = list' ≡ list
+StaysBut (Ok (Wrote w)) list list' = drop w.count list' ≡ drop w.count list
+StaysBut (Err f) list list' = list' ≡ list
 
 -- the list from answer to answer, each with the list after its call
 abbrev pub Lent : List ℕ → List (Reply × List ℕ) → List ℕ → Type 0
 Lent list [] last = last ≡ list
-Lent list (a ∷ more) last = Rest a.0 list a.1 × Lent a.1 more last
+Lent list (a ∷ more) last = StaysBut a.0 list a.1 × Lent a.1 more last
 
 -- So many calls were given, one after the other: they are a session, and its answers stand at the start of `answers`,
 -- whose other entries stay. The lent list is as the last write-out left it.
-pub record Held (capacity : ℕ) (cs : List Call) (number : ℕ) (before after : Told) (list list' : List ℕ) (answers answers' : List Reply) : Type 0 where
+pub record Held (capacity : ℕ) (cs : List Call) (number : ℕ) (before after : Told) (list list' : List ℕ)
+    (answers answers' : List Reply) : Type 0 where
   pub given : List (Reply × List ℕ)
   pub session : Session capacity cs before (map (λ (a : Reply × List ℕ). answer_of a.0 a.1) given) after
   pub lent : Lent list given list'

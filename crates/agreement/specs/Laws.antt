@@ -43,8 +43,7 @@ pub record WritesLeast (d : Told) (list list' : List ℕ) (w : WrittenOut) : Typ
   pub groups : List ℕ
   pub count : w.count ≡ length groups
   pub at_start : list' ≡ groups ++ drop (length groups) list
-  pub free : w.free ≡ d.free
-  pub linear : w.linear ≡ d.linear
+  pub marks : w.marks ≡ d.marks
   pub least : LeastCover d groups
 
 abbrev pub WriteOutIsLeast : ℕ → Told → List ℕ → List ℕ → Result WrittenOut KeeperFault → Type 0

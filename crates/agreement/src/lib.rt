@@ -1,8 +1,7 @@
-// What holds of whole runs, over keepers of any build.
+//! What holds of whole runs, over keepers of any build.
 #![tactic(auto)]
 
 pub mod call;
 pub mod compare;
-pub mod reckoning;
 pub mod session;
 pub mod write_out;

@@ -6,9 +6,9 @@ ghost use Rattle.std.specs.Prelude.{◌≡◌, IfOk, string_bytes, OnOk};
 ghost use Rattle.console.specs.Printing.{Prints, Served};
 
 use domain::table::BYTES;
-use keeper::keeper::Keeper;
+use keeper::Keeper;
 use runner::run::{LONGEST_SHEET, run};
-use sheet::mark::StepMark;
+use sheet::StepMark;
 use std::alloc::{AllocError, Global};
 use std::io::Read;
 use transcript::transcript;

@@ -6,7 +6,7 @@ ghost use Rattle.domain.specs.Coverage.{CoreFits};
 
 use crate::groups::Groups;
 use domain::refusal::Refusal;
-use roll::roll::Roll;
+use roll::Roll;
 
 impl Groups<'_> {
     // Puts the core at the start of a list and says how many groups it has, since the list is lent. One that is

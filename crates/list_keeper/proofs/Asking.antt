@@ -2,7 +2,8 @@
 use Rattle.std.proofs.Common.{◌≡◌, ℕ, ◌<◌, Bool, not, List, take, Some, Ok, Decides, Option, sym, subst, arith}
 use Rattle.std.proofs.lemmas.Bool.{ne_eqb, lt-leb}
 use Rattle.coverage.proofs.Verdicts.{decides_map, decides_not}
-use Rattle.domain.specs.Told.{Told, Share, Ground}
+use Rattle.domain.specs.Groups.{Share, IsGround}
+use Rattle.domain.specs.Told.{Told, Group}
 use Rattle.keeper.specs.Calls.{Answers, ask_refusal, pair_refusal}
 use Rattle.list_keeper.proofs.Listing.{test_listed, listed_test}
 use Rattle.list_keeper.specs.Entries.{SomeHolds}
@@ -19,19 +20,19 @@ answer_pair d p q Holds b some low high h =
     rw (ne_eqb d.n 0 (λ e. omega arith), lt-leb d.n p low, lt-leb d.n q high) h
 
 module _ (head : Head) (list : List ℕ) (p q : ℕ) where
-  share_some : SomeHolds (take head.count list) p q → Share (tells head list) p q
+  share_some : SomeHolds (take head.count list) p q → Share (Group (tells head list)) p q
   share_some s =
       record { group = s.group; told = record { told = listed_test (take head.count list) s.listed }; left = s.left; right = s.right }
 
-  some_share : Share (tells head list) p q → SomeHolds (take head.count list) p q
+  some_share : Share (Group (tells head list)) p q → SomeHolds (take head.count list) p q
   some_share s =
       record { group = s.group; listed = test_listed (take head.count list) s.group s.told.told; left = s.left; right = s.right }
 
-  decides_share : {b : Bool} → Decides b (SomeHolds (take head.count list) p q) → Decides b (Share (tells head list) p q)
+  decides_share : {b : Bool} → Decides b (SomeHolds (take head.count list) p q) → Decides b (Share (Group (tells head list)) p q)
   decides_share h = decides_map share_some some_share h
 
-module _ (head : Head) (list : List ℕ) (p : ℕ) (low : p < head.marks.positions) where
-  decides_ground : (b : Bool) → Decides b (SomeHolds (take head.count list) p p) → Decides (not b) (Ground (tells head list) p)
+module _ (head : Head) (list : List ℕ) (p : ℕ) (low : p < head.outline.positions) where
+  decides_ground : (b : Bool) → Decides b (SomeHolds (take head.count list) p p) → Decides (not b) (IsGround head.outline.positions (Group (tells head list)) p)
   decides_ground b h =
       decides_map
       (λ n. record {
@@ -42,17 +43,17 @@ module _ (head : Head) (list : List ℕ) (p : ℕ) (low : p < head.marks.positio
       (decides_not b h)
 
 -- a question of an opened keeper
-module _ (held : Option Head) (head : Head) (list : List ℕ) (is : held ≡ Some head) (some : 0 < head.marks.positions) (p : ℕ) where
-  pub ground_answered : p < head.marks.positions → (groups : List ℕ) → groups ≡ take head.count list → (b : Bool) → Decides b (SomeHolds groups p p)
-      → Answers (ask_refusal (told_by held list) p) (Ground (told_by held list) p) (Ok (not b))
+module _ (held : Option Head) (head : Head) (list : List ℕ) (is : held ≡ Some head) (some : 0 < head.outline.positions) (p : ℕ) where
+  pub ground_answered : p < head.outline.positions → (groups : List ℕ) → groups ≡ take head.count list → (b : Bool) → Decides b (SomeHolds groups p p)
+      → Answers (ask_refusal (told_by held list) p) (IsGround (told_by held list).n (Group (told_by held list)) p) (Ok (not b))
   ground_answered low groups same b decides =
-      subst (λ (o : Option Head). Answers (ask_refusal (told_by o list) p) (Ground (told_by o list) p) (Ok (not b))) (sym is)
+      subst (λ (o : Option Head). Answers (ask_refusal (told_by o list) p) (IsGround (told_by o list).n (Group (told_by o list)) p) (Ok (not b))) (sym is)
       (answer_ask (tells head list) p _ _ some low
       (decides_ground head list p low b (subst (λ (gs : List ℕ). Decides b (SomeHolds gs p p)) same decides)))
 
-  pub share_answered : (q : ℕ) → p < head.marks.positions → q < head.marks.positions → (groups : List ℕ) → groups ≡ take head.count list → (b : Bool)
-      → Decides b (SomeHolds groups p q) → Answers (pair_refusal (told_by held list) p q) (Share (told_by held list) p q) (Ok b)
+  pub share_answered : (q : ℕ) → p < head.outline.positions → q < head.outline.positions → (groups : List ℕ) → groups ≡ take head.count list → (b : Bool)
+      → Decides b (SomeHolds groups p q) → Answers (pair_refusal (told_by held list) p q) (Share (Group (told_by held list)) p q) (Ok b)
   share_answered q low high groups same b decides =
-      subst (λ (o : Option Head). Answers (pair_refusal (told_by o list) p q) (Share (told_by o list) p q) (Ok b)) (sym is)
+      subst (λ (o : Option Head). Answers (pair_refusal (told_by o list) p q) (Share (Group (told_by o list)) p q) (Ok b)) (sym is)
       (answer_pair (tells head list) p q _ _ some low high
       (decides_share head list p q (subst (λ (gs : List ℕ). Decides b (SomeHolds gs p q)) same decides)))

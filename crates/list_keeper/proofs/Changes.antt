@@ -4,19 +4,21 @@ use Rattle.std.proofs.lemmas.Bool.{ne_eqb, false≢true}
 use Rattle.coverage.proofs.Cover.{same_turned, same_trans, same_groups}
 use Rattle.coverage.proofs.CoreLeast.{core_same, dec_group}
 use Rattle.coverage.proofs.OneResult.{one_told}
+use Rattle.domain.specs.Changes.{Makes, change_tests}
 use Rattle.domain.specs.Coverage.{Alike, Core, Listed}
 use Rattle.domain.specs.Masks.{In}
 use Rattle.domain.specs.Opening.{New}
-use Rattle.domain.specs.Refusals.{Test, first_of, pick}
-use Rattle.domain.specs.Requests.{open_tests, room_tests}
+use Rattle.domain.specs.Refusals.{first_of, pick}
+use Rattle.domain.specs.Requests.{open_tests, room_tests, bytes_for}
 use Rattle.domain.specs.Tables.{holds_bit, told_with}
 use Rattle.domain.specs.Told.{Told, Group}
+use Rattle.domain.specs.declared.change.Change.{Change}
 use Rattle.domain.specs.declared.refusal.Refusal.{Refusal}
 use Rattle.domain.specs.declared.refusal.Refusal.TheVariants.{Order}
 use Rattle.domain.proofs.Bits.{in_single, single_in}
 use Rattle.domain.proofs.Tables.{room_for}
 use Rattle.domain.proofs.Laws.{group_of, of_group}
-use Rattle.keeper.specs.Calls.{Changes, Exactly, Opens, opened}
+use Rattle.keeper.specs.Calls.{Changes, ChangesBy, Exactly, Opens, opened}
 use Rattle.keeper.specs.declared.fault.KeeperFault.{KeeperFault}
 use Rattle.list_keeper.proofs.Keeping.{own_range}
 use Rattle.list_keeper.proofs.Listing.{test_listed, listed_test}
@@ -26,25 +28,25 @@ use Rattle.list_keeper.specs.declared.head.Head.{Head}
 
 -- ---- the list as a table
 
-module _ (head : Head) (list table : List ℕ) (kept : Kept head list) (room : 512 ≤ length table)
+module _ (head : Head) (list table : List ℕ) (kept : Kept head list) (room : bytes_for head.outline.positions ≤ length table)
     (holds : (g : ℕ) → g / 8 < length table → Decides (holds_bit table g) (Listed g (take head.count list))) where
-  in_list : (g : ℕ) → Group (told_with head.marks table) g → Group (tells head list) g
+  in_list : (g : ℕ) → Group (told_with head.outline table) g → Group (tells head list) g
   in_list g t =
-      let r = of_group head.marks.positions table head.marks.free head.marks.linear g t in
+      let r = of_group head.outline.positions table g t in
       record {
         told = listed_test (take head.count list)
-            ((holds g (room_for head.marks.positions g (length table) kept.few r.1 room)).0 r.2);
+            ((holds g (room_for head.outline.positions g (length table) kept.few r.1 room)).0 r.2);
       }
 
-  in_table : (g : ℕ) → Group (tells head list) g → Group (told_with head.marks table) g
+  in_table : (g : ℕ) → Group (tells head list) g → Group (told_with head.outline table) g
   in_table g t =
       let r = own_range head list kept g t in
-      group_of head.marks.positions table head.marks.free head.marks.linear g r.0 r.1
-      ((holds g (room_for head.marks.positions g (length table) kept.few r.1 room)).1 (test_listed (take head.count list) g t.told))
+      group_of head.outline.positions table g r.0 r.1
+      ((holds g (room_for head.outline.positions g (length table) kept.few r.1 room)).1 (test_listed (take head.count list) g t.told))
 
-  pub loaded_told : told_with head.marks table ≡ tells head list
+  pub loaded_told : told_with head.outline table ≡ tells head list
   loaded_told =
-      one_told (record { positions = refl; free = refl; linear = refl; cover = same_groups in_list in_table }) in_list in_table
+      one_told (record { positions = refl; marks = refl; cover = same_groups in_list in_table }) in_list in_table
 
 -- ---- tests
 
@@ -57,8 +59,7 @@ pub tells_alike : {e after : Told} → TellsCore e after → Alike e after
 tells_alike {e} t =
     record {
       positions = t.positions;
-      free = t.free;
-      linear = t.linear;
+      marks = t.marks;
       cover = same_trans (same_turned (core_same (dec_group e))) (same_groups t.all t.only);
     }
 
@@ -79,7 +80,7 @@ new_core {n} {e} new g t =
           ne (u.only ∙ ap (λ (x : ℕ). 2 ^ x) (sym (single_in (subst (λ (x : ℕ). In s.place x) u.only i))) ∙ sym s.only);
     }
 
-pub opens_stored : (n scratch : ℕ) (e : Told) → New n e → first_of (open_tests n ++ room_tests scratch) ≡ None → (capacity : ℕ) (head : Option Head)
+pub opens_stored : (n scratch : ℕ) (e : Told) → New n e → first_of (open_tests n ++ room_tests n scratch) ≡ None → (capacity : ℕ) (head : Option Head)
     (list : List ℕ) (after : Told) → is_some head ≡ false → (r : Result (Unit {0}) KeeperFault) → Stores e capacity (told_by head list) after r
     → Opens capacity n scratch (told_by head list) after r
 opens_stored n scratch e new none capacity (Some h) list after is r s = absurd (false≢true (sym is))
@@ -91,32 +92,25 @@ opens_stored n scratch e new none capacity None list after is r s =
         (e, new, s.0, one_told (tells_alike s.1) (λ g t. s.1.all g (new_core new g t)) (λ g t. (s.1.only g t).told))
     go (Err f) s = (s.0, s.1, (e, new, s.2))
 
--- ---- a rule on the loaded table
+-- ---- a change of the loaded table
 
--- the tests of the rule are those that an opened keeper is left with
-module _ (Rule : Told → Told → Type 0) (tests : ℕ → ℕ → List Test) (size capacity : ℕ) (held : Option Head) (head : Head) (list : List ℕ)
-    (is : held ≡ Some head) (some : 0 < head.marks.positions) (after : Told) (r : Result (Unit {0}) KeeperFault) where
-  -- what a call of the rule promises
-  abbrev Promised : Type 0
-  Promised =
-      Changes (pick (not (opened (told_by held list))) Order (first_of (tests (told_by held list).n size))) capacity (Rule (told_by held list)) Alike
-      (told_by held list) after r
+-- the tests of the change are those that an opened keeper is left with
+module _ (c : Change (List ℕ)) (size capacity : ℕ) (held : Option Head) (head : Head) (list : List ℕ)
+    (is : held ≡ Some head) (some : 0 < head.outline.positions) (after : Told) (r : Result (Unit {0}) KeeperFault) where
+  of_opened : Changes (first_of (change_tests head.outline.positions c size)) capacity (Makes c (tells head list)) Alike (tells head list) after r
+      → ChangesBy c capacity size (told_by held list) after r
+  of_opened h =
+      subst (λ (o : Option Head). ChangesBy c capacity size (told_by o list) after r) (sym is)
+      (subst (λ (x : Option Refusal). Changes x capacity (Makes c (tells head list)) Alike (tells head list) after r)
+      (sym (opened_told head.outline.positions (first_of (change_tests head.outline.positions c size)) some)) h)
 
-  of_opened : Changes (first_of (tests head.marks.positions size)) capacity (Rule (tells head list)) Alike (tells head list) after r → Promised
-  of_opened c =
-      subst
-      (λ (o : Option Head). Changes (pick (not (opened (told_by o list))) Order (first_of (tests (told_by o list).n size))) capacity (Rule (told_by o list)) Alike
-      (told_by o list) after r)
-      (sym is)
-      (subst (λ (x : Option Refusal). Changes x capacity (Rule (tells head list)) Alike (tells head list) after r)
-      (sym (opened_told head.marks.positions (first_of (tests head.marks.positions size)) some)) c)
-
-  pub changes_stored : (e : Told) → first_of (tests head.marks.positions size) ≡ None → Rule (tells head list) e
+  pub changes_stored : (e : Told) → first_of (change_tests head.outline.positions c size) ≡ None → Makes c (tells head list) e
       → Stores e capacity (told_by held list) after r
-      → Promised
-  changes_stored e none rule s =
+      → ChangesBy c capacity size (told_by held list) after r
+  changes_stored e none made s =
       of_opened (rw none (stored_by r (subst (λ (o : Option Head). Stores e capacity (told_by o list) after r) is s)))
     where
-      stored_by : (r : Result (Unit {0}) KeeperFault) → Stores e capacity (tells head list) after r → Changes None capacity (Rule (tells head list)) Alike (tells head list) after r
-      stored_by (Ok u) s = (e, rule, s.0, tells_alike s.1)
-      stored_by (Err f) s = (s.0, s.1, (e, rule, s.2))
+      stored_by : (r : Result (Unit {0}) KeeperFault) → Stores e capacity (tells head list) after r
+          → Changes None capacity (Makes c (tells head list)) Alike (tells head list) after r
+      stored_by (Ok u) s = (e, made, s.0, tells_alike s.1)
+      stored_by (Err f) s = (s.0, s.1, (e, made, s.2))

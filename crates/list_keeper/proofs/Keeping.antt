@@ -14,7 +14,8 @@ use Rattle.domain.specs.Refusals.{first_of}
 use Rattle.domain.specs.Requests.{ascend, open_tests}
 use Rattle.domain.specs.Tables.{told_with}
 use Rattle.domain.specs.Told.{Told, Group}
-use Rattle.domain.specs.declared.marks.Marks.{Marks}
+use Rattle.domain.specs.declared.limits.TheConstants.{MOST_POSITIONS}
+use Rattle.domain.specs.declared.outline.Outline.{Outline}
 use Rattle.domain.specs.declared.refusal.Refusal.{Refusal}
 use Rattle.domain.specs.declared.refusal.Refusal.TheVariants.{Room}
 use Rattle.domain.proofs.Joining.{ascend_range}
@@ -22,8 +23,10 @@ use Rattle.domain.proofs.Laws.{of_group}
 use Rattle.domain.proofs.Mapped.{was_ok}
 use Rattle.rules.proofs.Lending.{counted_told}
 use Rattle.list_keeper.proofs.Listing.{test_listed, listed_test, ascend_above, above_ascend}
-use Rattle.list_keeper.specs.Keeping.{Kept, Stores, Shows, Laid}
+use Rattle.list_keeper.specs.Keeping.{Kept, Stores, LaysOut}
+use Rattle.list_keeper.specs.ListKeepers.{KeepsList}
 use Rattle.list_keeper.specs.Tells.{tells}
+use Rattle.list_keeper.specs.declared.ListKeeper.{ListKeeper}
 use Rattle.list_keeper.specs.declared.head.Head.{Head}
 
 -- ---- what is told is its own core
@@ -36,16 +39,16 @@ module _ (head : Head) (list : List ℕ) (kept : Kept head list) where
             λ g l.
             dec_stable (dec_core (dec_group (tells head list)) g) (kept.core g (record { told = listed_test (take head.count list) l }));
         all = λ g c. test_listed (take head.count list) g c.told.told;
-        ascending = ascend_above head.marks.positions 0 (take head.count list) kept.rising;
+        ascending = ascend_above head.outline.positions 0 (take head.count list) kept.rising;
       }
 
-  pub own_range : (g : ℕ) → Group (tells head list) g → (0 < g) × (g < 2 ^ head.marks.positions)
+  pub own_range : (g : ℕ) → Group (tells head list) g → (0 < g) × (g < 2 ^ head.outline.positions)
   own_range g t =
-      ascend_range head.marks.positions 0 (take head.count list) kept.rising g (test_listed (take head.count list) g t.told)
+      ascend_range head.outline.positions 0 (take head.count list) kept.rising g (test_listed (take head.count list) g t.told)
 
-  -- so the list shows it
-  pub shows : Shows (tells head list) list
-  shows =
+  -- so the list lays it out
+  pub laid_out : LaysOut (tells head list) list
+  laid_out =
       let long : length (take head.count list) ≡ head.count = length-take-le head.count list kept.inside in
       record {
         groups = take head.count list;
@@ -54,33 +57,37 @@ module _ (head : Head) (list : List ℕ) (kept : Kept head list) where
         zero = λ i h. kept.cleared i (omega arith);
       }
 
-pub laid : (head : Option Head) (list before : List ℕ) → ForSome head (λ h. Kept h list) → ForNone head (list ≡ before) → Laid head before list
-laid head list before kept same = (same, λ h is. shows h list (kept h is))
+-- a call that kept the list kept it as its contract says
+pub keeps_list : (before after : ListKeeper) → after.list.ghost_name ≡ before.list.ghost_name
+    → length after.list.now ≡ length before.list.now → ForNone after.head (after.list.now ≡ before.list.now)
+    → ForSome after.head (λ h. Kept h after.list.now) → KeepsList before after
+keeps_list before after lent long untouched kept =
+    record { lent = lent; long = long; untouched = untouched; laid_out = λ h is. laid_out h after.list.now (kept h is) }
 
 -- ---- a core that is stored
 
-module _ (marks : Marks) (table list list' list'' : List ℕ) (count : ℕ) (some : 0 < marks.positions) (few : marks.positions < 13)
-    (fills : FillsCore (Group (told_with marks table)) list list' count) (same : length list' ≡ length list) (long : length list'' ≡ length list)
+module _ (outline : Outline) (table list list' list'' : List ℕ) (count : ℕ) (some : 0 < outline.positions) (few : outline.positions ≤ MOST_POSITIONS)
+    (fills : FillsCore (Group (told_with outline table)) list list' count) (same : length list' ≡ length list) (long : length list'' ≡ length list)
     (front : take count list'' ≡ take count list') (zero' : (i : ℕ) → count ≤ i → get_or list'' i 0 ≡ 0) where
   -- the new head
   abbrev new_head : Head
-  new_head = record { marks = marks; count = count }
+  new_head = record { outline = outline; count = count }
 
   groups_are : take count list'' ≡ fills.groups
   groups_are =
       front ∙ ap (λ (l : List ℕ). take count l) fills.at_start ∙ take_at fills.groups (drop count list) count (sym fills.counted)
 
-  is_core_lem : (g : ℕ) → Group (tells new_head list'') g → Core (Group (told_with marks table)) g
+  is_core_lem : (g : ℕ) → Group (tells new_head list'') g → Core (Group (told_with outline table)) g
   is_core_lem g t = fills.core.only g (subst (λ (l : List ℕ). Listed g l) groups_are (test_listed (take count list'') g t.told))
 
-  of_core : (g : ℕ) → Core (Group (told_with marks table)) g → Group (tells new_head list'') g
+  of_core : (g : ℕ) → Core (Group (told_with outline table)) g → Group (tells new_head list'') g
   of_core g c =
       record { told = listed_test (take count list'') (subst (λ (l : List ℕ). Listed g l) (sym groups_are) (fills.core.all g c)) }
 
   -- the core of the core is the core
   own : (g : ℕ) → Group (tells new_head list'') g → (Core (Group (tells new_head list'')) g → ⊥) → ⊥
   own g t other =
-      other (core_as of_core is_core_lem (core_kept (same_turned (core_same (dec_group (told_with marks table)))) (is_core_lem g t)))
+      other (core_as of_core is_core_lem (core_kept (same_turned (core_same (dec_group (told_with outline table)))) (is_core_lem g t)))
 
   stored_kept : Kept new_head list''
   stored_kept =
@@ -89,14 +96,14 @@ module _ (marks : Marks) (table list list' list'' : List ℕ) (count : ℕ) (som
         few = few;
         inside = (let h = fills_inside list list' count fills same in omega arith);
         rising =
-            subst (λ (l : List ℕ). ascend marks.positions 0 l ≡ true) (sym groups_are)
-            (above_ascend marks.positions 0 fills.groups fills.core.ascending
-            (λ g l. (of_group marks.positions table marks.free marks.linear g (fills.core.only g l).told).1));
+            subst (λ (l : List ℕ). ascend outline.positions 0 l ≡ true) (sym groups_are)
+            (above_ascend outline.positions 0 fills.groups fills.core.ascending
+            (λ g l. (of_group outline.positions table g (fills.core.only g l).told).1));
         core = own;
         cleared = zero';
       }
 
-  pub stored : Kept new_head list'' × ((before : Told) → Stores (told_with marks table) (length list) before (tells new_head list'') (Ok tt))
+  pub stored : Kept new_head list'' × ((before : Told) → Stores (told_with outline table) (length list) before (tells new_head list'') (Ok tt))
   stored = (
     stored_kept,
     λ before. (
@@ -105,20 +112,20 @@ module _ (marks : Marks) (table list list' list'' : List ℕ) (count : ℕ) (som
         short = (let h = fills_inside list list' count fills same in let k = fills.counted in omega arith);
         holds = fills.core.all;
       },
-      record { positions = refl; free = refl; linear = refl; only = is_core_lem; all = of_core },
+      record { positions = refl; marks = refl; only = is_core_lem; all = of_core },
     ),
   )
 
 -- what writing gave, where it gave a count, of which the error alone was mapped
-pub wrote : {D : Type 0} {list list' : List ℕ} {m : Result ℕ D} {count : ℕ} (marks : Marks) (table : List ℕ) (P : Refusal → D → Type 0) (r : Result ℕ Refusal)
+pub wrote : {D : Type 0} {list list' : List ℕ} {m : Result ℕ D} {count : ℕ} (outline : Outline) (table : List ℕ) (P : Refusal → D → Type 0) (r : Result ℕ Refusal)
     → MatchResult r (λ y. m ≡ Ok y) (λ e. IsErrAnd m (P e)) → m ≡ Ok count
-    → WritesCore marks.positions table marks.free marks.linear list list' r → FillsCore (Group (told_with marks table)) list list' count
-wrote {list = list} {list' = list'} {m = m} {count = count} marks table P r cases is h =
-    fills_given (first_of (open_tests marks.positions)) (Group (told_with marks table)) list list' count (rw (was_ok m P r count cases is) at h)
+    → WritesCore outline.positions table list list' r → FillsCore (Group (told_with outline table)) list list' count
+wrote {list = list} {list' = list'} {m = m} {count = count} outline table P r cases is h =
+    fills_given (first_of (open_tests outline.positions)) (Group (told_with outline table)) list list' count (rw (was_ok m P r count cases is) at h)
 
 -- and where it gave a refusal, if the number of positions is lawful
-pub refused : (marks : Marks) (table list list' : List ℕ) (e : Refusal) → 0 < marks.positions → marks.positions < 13
-    → WritesCore marks.positions table marks.free marks.linear list list' (Err e)
-    → (e ≡ Room) × (list' ≡ list) × (CoreFits (Group (told_with marks table)) (length list) → ⊥)
-refused marks table list list' e some few h =
-    subst (λ (o : Option Refusal). WritesOr o (Group (told_with marks table)) list list' (Err e)) (counted_told marks.positions None some few) h
+pub refused : (outline : Outline) (table list list' : List ℕ) (e : Refusal) → 0 < outline.positions → outline.positions ≤ MOST_POSITIONS
+    → WritesCore outline.positions table list list' (Err e)
+    → (e ≡ Room) × (list' ≡ list) × (CoreFits (Group (told_with outline table)) (length list) → ⊥)
+refused outline table list list' e some few h =
+    subst (λ (o : Option Refusal). WritesOr o (Group (told_with outline table)) list list' (Err e)) (counted_told outline.positions None some few) h

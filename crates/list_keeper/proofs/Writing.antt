@@ -18,12 +18,11 @@ module _ (held : Option Head) (head : Head) (list : List ℕ) (is : held ≡ Som
   -- the core, at the start of a list that is long enough
   pub written : (out' : List ℕ) → head.count ≤ length out → (groups : List ℕ) → groups ≡ take head.count list
       → out' ≡ groups ++ drop (length groups) out
-      → Writes (told_by held list) out out' (Ok (record { count = head.count; free = head.marks.free; linear = head.marks.linear }))
+      → Writes (told_by held list) out out' (Ok (record { count = head.count; marks = head.outline.marks }))
   written out' room groups same at_start =
-      subst (λ (o : Option Head). Writes (told_by o list) out out' (Ok (record { count = head.count; free = head.marks.free; linear = head.marks.linear })))
+      subst (λ (o : Option Head). Writes (told_by o list) out out' (Ok (record { count = head.count; marks = head.outline.marks })))
       (sym is) (
-        ap not (ne_eqb head.marks.positions 0 (λ e. let some = kept.some in omega arith)),
-        refl,
+        ap not (ne_eqb head.outline.positions 0 (λ e. let some = kept.some in omega arith)),
         refl,
         (
           take head.count list,
@@ -39,7 +38,7 @@ module _ (held : Option Head) (head : Head) (list : List ℕ) (is : held ≡ Som
       subst (λ (o : Option Head). Writes (told_by o list) out out (Err f)) (sym is) (
         refl,
         inr (
-          ap not (ne_eqb head.marks.positions 0 (λ e. let some = kept.some in omega arith)),
+          ap not (ne_eqb head.outline.positions 0 (λ e. let some = kept.some in omega arith)),
           room,
           λ fits. omega (arith, long, fits_count (list_counted (own_core head list kept)) fits, few),
         ),

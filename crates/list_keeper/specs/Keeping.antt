@@ -1,9 +1,9 @@
 -- What the inner functions of a list keeper promise.
-use Rattle.std.specs.Prelude.{◌≡◌, ℕ, ◌<◌, ◌≤◌, true, List, length, take, Ok, Err, Option, Result, slice_index}
-use Rattle.std.specs.Option.{ForSome, ForNone}
+use Rattle.std.specs.Prelude.{◌≡◌, ℕ, ◌<◌, ◌≤◌, true, List, length, take, Ok, Err, Result, slice_index}
 use Rattle.domain.specs.Coverage.{Core, CoreFits, CoreList}
 use Rattle.domain.specs.Requests.{ascend}
 use Rattle.domain.specs.Told.{Told, Group}
+use Rattle.domain.specs.declared.limits.TheConstants.{MOST_POSITIONS}
 use Rattle.domain.specs.declared.refusal.Refusal.TheVariants.{Capacity}
 use Rattle.keeper.specs.Calls.{fault_of}
 use Rattle.keeper.specs.declared.fault.KeeperFault.{KeeperFault}
@@ -12,22 +12,21 @@ use Rattle.list_keeper.specs.declared.head.Head.{Head}
 
 -- the rules of an opened keeper hold of a head and a list
 pub record Kept (head : Head) (list : List ℕ) : Type 0 where
-  pub some : 0 < head.marks.positions
-  pub few : head.marks.positions < 13
+  pub some : 0 < head.outline.positions
+  pub few : head.outline.positions ≤ MOST_POSITIONS
   pub inside : head.count ≤ length list
   -- the groups ascend, and are masks of so many positions
-  pub rising : ascend head.marks.positions 0 (take head.count list) ≡ true
+  pub rising : ascend head.outline.positions 0 (take head.count list) ≡ true
   -- no group is anything but a core group: twice denied, since an invariant has one proof at most, and that
   -- of a core group names one of several pairs
   pub core : (g : ℕ) → Group (tells head list) g → (Core (Group (tells head list)) g → ⊥) → ⊥
   -- the entries behind the core are 0
   pub cleared : (i : ℕ) → head.count ≤ i → slice_index list i ≡ 0
 
--- what is told afterwards is the core of e, with its masks
+-- what is told afterwards is the core of e, with its marks
 pub record TellsCore (e after : Told) : Type 0 where
   pub positions : e.n ≡ after.n
-  pub free : e.free ≡ after.free
-  pub linear : e.linear ≡ after.linear
+  pub marks : e.marks ≡ after.marks
   pub only : (g : ℕ) → Group after g → Core (Group e) g
   pub all : (g : ℕ) → Core (Group e) g → Group after g
 
@@ -38,12 +37,8 @@ Stores e capacity before after (Err f) =
     (f ≡ fault_of Capacity) × (after ≡ before) × (CoreFits (Group e) capacity → ⊥)
 
 -- the core of d stands at the start of the list, and the entries behind it are 0
-pub record Shows (d : Told) (list : List ℕ) : Type 0 where
+pub record LaysOut (d : Told) (list : List ℕ) : Type 0 where
   pub groups : List ℕ
   pub core : CoreList (Group d) groups
   pub front : take (length groups) list ≡ groups
   pub zero : (i : ℕ) → length groups ≤ i → slice_index list i ≡ 0
-
--- while the keeper is not opened its list stays as it was; from then on it shows what is told
-abbrev pub Laid : Option Head → List ℕ → List ℕ → Type 0
-Laid head before after = ForNone head (after ≡ before) × ForSome head (λ h. Shows (tells h after) after)

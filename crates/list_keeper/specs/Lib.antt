@@ -1,3 +1,4 @@
 pub mod Entries
 pub mod Tells
 pub mod Keeping
+pub mod ListKeepers

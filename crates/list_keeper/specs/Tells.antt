@@ -1,6 +1,7 @@
--- What a list keeper tells.
-use Rattle.std.specs.Prelude.{ℕ, false, List, Some, None, Option, take}
+-- What a list keeper tells, by what it holds.
+use Rattle.std.specs.Prelude.{ℕ, List, Some, None, Option, take}
 use Rattle.domain.specs.Told.{Told}
+use Rattle.keeper.specs.Calls.{unopened}
 use Rattle.list_keeper.specs.Entries.{is_listed}
 use Rattle.list_keeper.specs.declared.head.Head.{Head}
 
@@ -8,13 +9,11 @@ use Rattle.list_keeper.specs.declared.head.Head.{Head}
 abbrev pub tells : Head → List ℕ → Told
 tells head list =
     record {
-      n = head.marks.positions;
+      n = head.outline.positions;
       groups = is_listed (take head.count list);
-      free = head.marks.free;
-      linear = head.marks.linear;
+      marks = head.outline.marks;
     }
 
--- before it is opened there are no positions, so nothing else is told
 abbrev pub told_by : Option Head → List ℕ → Told
-told_by None list = record { n = 0; groups = λ g. false; free = 0; linear = 0 }
+told_by None list = unopened
 told_by (Some head) list = tells head list

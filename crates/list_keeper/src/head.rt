@@ -1,9 +1,9 @@
-// What an opened list keeper knows beside its list.
-use domain::marks::Marks;
+//! What an opened list keeper knows beside its list.
+use domain::outline::Outline;
 
 #[derive(Clone, Copy)]
 pub(crate) struct Head {
-    pub(crate) marks: Marks,
-    // how many entries of the list are core groups: the memory is lent, so no Vec
+    pub(crate) outline: Outline,
+    // how many entries of the list are core groups
     pub(crate) count: usize,
 }

@@ -1,6 +1,6 @@
-// Keeping the core of a table.
+//! Keeping the core of a table.
 ghost use Rattle.std.specs.Option.{ForSome, ForNone};
-ghost use Rattle.std.specs.Prelude.{◌≡◌, ◌<◌, length};
+ghost use Rattle.std.specs.Prelude.{◌≡◌, ◌<◌, ◌≤◌, length};
 ghost use Rattle.domain.specs.Tables.{told_with};
 ghost use Rattle.list_keeper.specs.Keeping.{Kept, Stores};
 ghost use Rattle.list_keeper.specs.Tells.{told_by};
@@ -8,32 +8,33 @@ ghost use Rattle.list_keeper.specs.Tells.{told_by};
 use crate::entries::clear;
 use crate::head::Head;
 use coverage::groups::Groups;
-use domain::marks::Marks;
+use domain::limits::MOST_POSITIONS;
+use domain::outline::Outline;
 use domain::refusal::Refusal;
-use keeper::fault::KeeperFault;
+use keeper::KeeperFault;
 
-// Puts the core of the table into the list, and the marks beside it. Where the core has more groups than the
-// list has room for, nothing is changed. `some` and `few` are asked here and not in `Marks`: that is a
-// plain struct, whose callers may give any number and be refused by a call.
+// Puts the core of the table into the list, and the outline beside it. Where the core has more groups than the
+// list has room for, nothing is changed.
 pub(crate) fn store(
     head: &mut Option<Head>,
     list: &mut [u16],
     table: &[u8],
-    marks: Marks,
+    outline: Outline,
 ) -> Result<(), KeeperFault>
-    requires some { 0 < marks.positions }
-    requires few { marks.positions < 13 }
+    requires some { 0 < outline.positions }
+    requires few { outline.positions ≤ MOST_POSITIONS }
     requires kept { ForSome head.old (λ h. Kept h list.old) }
     ensures kept { ForSome head.new (λ h. Kept h list.new) }
     ensures untouched { ForNone head.new (list.new ≡ list.old) }
-    ensures stores { Stores (told_with marks table.now) (length list.old) (told_by head.old list.old) (told_by head.new list.new) result }
+    ensures stores { Stores (told_with outline table.now) (length list.old)
+        (told_by head.old list.old) (told_by head.new list.new) result }
 {
     let groups = Groups {
         table,
-        positions: marks.positions,
+        positions: outline.positions,
     };
     let count = groups.write_core(list).map_err(|_| Refusal::Capacity)?;
     clear(list, count);
-    *head = Some(Head { marks, count });
+    *head = Some(Head { outline, count });
     Ok(())
 }

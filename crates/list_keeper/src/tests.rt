@@ -1,10 +1,12 @@
-// Worked binds on lists of several lengths.
+//! Worked binds on lists of several lengths.
 use crate::ListKeeper;
+use domain::limits::TABLE_BYTES;
+use domain::marks::Marks;
 use domain::refusal::Refusal;
 use domain::term::Term;
-use keeper::fault::KeeperFault;
-use keeper::keeper::Keeper;
-use keeper::write_out::WrittenOut;
+use keeper::KeeperFault;
+use keeper::Keeper;
+use keeper::WrittenOut;
 use std::test::Fail;
 
 fn refused<T>(refusal: Refusal) -> Result<T, KeeperFault> {
@@ -13,7 +15,7 @@ fn refused<T>(refusal: Refusal) -> Result<T, KeeperFault> {
 
 // Opens five positions and binds 0 to f(1, 2, 3), and then to f(4, 4).
 fn bind_both(keeper: &mut ListKeeper) -> Result<(), KeeperFault> {
-    let mut scratch = [0; 512];
+    let mut scratch = [0; TABLE_BYTES];
     keeper.open(5, &mut scratch)?;
     keeper.bind(0, Term::over(14, 0), &mut scratch)?;
     keeper.bind(0, Term::over(16, 16), &mut scratch)
@@ -28,8 +30,10 @@ fn only_the_core_is_told(rt: HostRuntime) -> Result<(), Fail> {
     let told = keeper.write_out(&mut out)?;
     let wanted = WrittenOut {
         count: 6,
-        free: 0,
-        linear: 16,
+        marks: Marks {
+            free: 0,
+            linear: 16,
+        },
     };
     assert_eq!(rt; told, wanted);
     assert!(rt; out == [19, 21, 23, 25, 27, 29, 9]);
@@ -58,6 +62,9 @@ fn a_list_of_five_is_not(rt: HostRuntime) {
 #[test]
 fn an_empty_list_takes_nothing(rt: HostRuntime) {
     let mut keeper = ListKeeper::new(&mut []);
-    assert_eq!(rt; keeper.open(1, &mut [0; 512]), refused(Refusal::Capacity));
+    assert_eq!(rt;
+        keeper.open(1, &mut [0; TABLE_BYTES]),
+        refused(Refusal::Capacity)
+    );
     assert_eq!(rt; keeper.is_ground(0), refused(Refusal::Order));
 }

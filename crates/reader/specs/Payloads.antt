@@ -2,8 +2,8 @@
 use Rattle.std.specs.Prelude.{ℕ, ◌+◌, ◌-◌, ◌/◌, ◌%◌, if◌then◌else◌, not, ◌||◌, List, Ok, ◌==◌, nat_lt}
 use Rattle.domain.specs.declared.change.Change.TheVariants as change
 use Rattle.domain.specs.declared.refusal.Refusal.TheVariants.{Length, Letter}
-use Rattle.keeper.specs.declared.question.Question.{Question}
-use Rattle.keeper.specs.declared.question.Question.TheVariants.{Ground, Free, Linear, Pair}
+use Rattle.keeper.specs.declared.questions.Question.{Question}
+use Rattle.keeper.specs.declared.questions.Question.TheVariants.{Ground, Free, Linear, Pair}
 use Rattle.sheet.specs.declared.kind.StepKind.{StepKind}
 use Rattle.sheet.specs.declared.kind.StepKind.TheVariants.{Open, Bind, Join, Forget, Ask, End}
 use Rattle.sheet.specs.declared.steps.Step.{Step}

@@ -5,7 +5,7 @@ ghost use Rattle.reader.specs.Payloads.{one_of, two_of, question_of};
 
 use crate::record::SheetRecord;
 use domain::refusal::Refusal;
-use keeper::question::Question;
+use keeper::Question;
 use sheet::ReaderFault;
 
 impl SheetRecord<'_> {

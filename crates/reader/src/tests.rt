@@ -7,7 +7,7 @@ use domain::listing::Listing;
 use domain::marks::Marks;
 use domain::refusal::Refusal;
 use domain::term::Term;
-use keeper::question::Question;
+use keeper::Question;
 use sheet::{ReaderFault, Span, Step};
 use std::process::Abort;
 

@@ -1,6 +1,6 @@
 -- What a roll shows.
 use Rattle.std.specs.Prelude.{ℕ, List, take}
-use Rattle.roll.specs.declared.roll.Roll.{Roll}
+use Rattle.roll.specs.declared.entries.Roll.{Roll}
 
 -- every entry, in use or spare
 abbrev pub slots : {X : Type 0} → Roll X → List X

@@ -4,7 +4,7 @@ use Rattle.std.specs.List.{AllByRecursion}
 use Rattle.std.proofs.ByRecursion.{All-push, All-weaker}
 use Rattle.std.proofs.lemmas.List.{take_more_set}
 use Rattle.roll.specs.Views.{in_use, slots}
-use Rattle.roll.specs.declared.roll.Roll.{Roll}
+use Rattle.roll.specs.declared.entries.Roll.{Roll}
 use Rattle.runner.specs.Turning.{Marked}
 use Rattle.sheet.specs.declared.mark.StepMark.{StepMark}
 use Rattle.reader.specs.declared.state.State.TheVariants.{New}

@@ -32,8 +32,8 @@ use Rattle.keeper.specs.Questions.{Asks}
 use Rattle.sheet.specs.declared.fault.RunnerFault.TheVariants.{Keeper}
 use Rattle.sheet.specs.declared.fault.SheetFault.{SheetFault}
 use Rattle.sheet.specs.declared.mark.StepMark.{StepMark}
-use Rattle.keeper.specs.declared.question.Question.{Question}
-use Rattle.keeper.specs.declared.question.Question.TheVariants.{Ground, Free, Linear, Pair}
+use Rattle.keeper.specs.declared.questions.Question.{Question}
+use Rattle.keeper.specs.declared.questions.Question.TheVariants.{Ground, Free, Linear, Pair}
 use Rattle.sheet.specs.declared.step.Step.{Step}
 use Rattle.sheet.specs.declared.step.Step.TheVariants.{Open, Bind, Join, Forget, Ask, End}
 

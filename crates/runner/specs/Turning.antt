@@ -5,7 +5,7 @@ use Rattle.domain.specs.Told.{Told}
 use Rattle.domain.specs.declared.refusal.Refusal.TheVariants.{Truncated, Room}
 use Rattle.keeper.specs.declared.fault.KeeperFault.{KeeperFault}
 use Rattle.roll.specs.Views.{in_use}
-use Rattle.roll.specs.declared.roll.Roll.{Roll}
+use Rattle.roll.specs.declared.entries.Roll.{Roll}
 use Rattle.sheet.specs.Faults.{fault_at}
 use Rattle.runner.specs.Playing.{mark_of}
 use Rattle.runner.specs.Serving.{Serves}

@@ -7,11 +7,11 @@ ghost use Rattle.runner.specs.Turning.{end_of};
 
 use crate::turn::{Cursor, take_step};
 use domain::refusal::Refusal;
-use keeper::keeper::Keeper;
+use keeper::Keeper;
 use reader::state::State;
-use roll::roll::Roll;
-use sheet::fault::{ReaderFault, RunnerFault, SheetFault};
-use sheet::mark::StepMark;
+use roll::Roll;
+use sheet::{ReaderFault, RunnerFault, SheetFault};
+use sheet::StepMark;
 
 // No sheet has more bytes.
 pub const LONGEST_SHEET: usize = 65_535;

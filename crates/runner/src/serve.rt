@@ -4,10 +4,10 @@ ghost use Rattle.sheet.specs.Steps.{Inside, group_count};
 ghost use Rattle.runner.specs.Serving.{Serves};
 
 use domain::listing::Listing;
-use keeper::fault::KeeperFault;
-use keeper::keeper::Keeper;
+use keeper::KeeperFault;
+use keeper::Keeper;
 use reader::groups::copy_groups;
-use sheet::step::Step;
+use sheet::Step;
 
 // The keeper's answer to a step: yes or no, where a step that is no question answers yes. A join's
 // groups are copied to the start of `groups`, whose contents afterwards are free.

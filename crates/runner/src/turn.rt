@@ -6,12 +6,12 @@ ghost use Rattle.reader.specs.Following.{next_at};
 
 use crate::serve::serve;
 use domain::refusal::Refusal;
-use keeper::keeper::Keeper;
+use keeper::Keeper;
 use reader::next::next_step;
 use reader::state::State;
-use roll::roll::Roll;
-use sheet::fault::RunnerFault;
-use sheet::mark::StepMark;
+use roll::Roll;
+use sheet::RunnerFault;
+use sheet::StepMark;
 
 // Where a runner stands: its state, the place of the next record and the number of the next step.
 #[derive(Clone, Copy)]

@@ -6,7 +6,7 @@ ghost use Rattle.sheet.specs.Faults.{number_in, layer_in, fault_at, refused_of, 
 ghost use Rattle.sheet.specs.declared.fault.RunnerFault.TheVariants.{Reader, Keeper};
 
 use domain::refusal::{Layer, Refusal};
-use keeper::fault::KeeperFault;
+use keeper::KeeperFault;
 
 /// The reader's fault.
 #[derive(Clone, Copy, PartialEq, Eq, Debug)]

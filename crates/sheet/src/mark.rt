@@ -4,7 +4,7 @@ ghost use Rattle.sheet.specs.Marks.{blank_mark};
 
 use crate::kind::StepKind;
 use crate::steps::LONGEST_SHEET;
-use roll::key::Keyed;
+use roll::Keyed;
 
 /// What was done with one step.
 #[derive(Clone, Copy, PartialEq, Eq, Debug)]

@@ -4,7 +4,7 @@ ghost use Rattle.sheet.specs.Steps.{group_count, kind_of};
 
 use crate::kind::StepKind;
 use domain::change::Change;
-use keeper::question::Question;
+use keeper::Question;
 
 /// No sheet has more bytes.
 pub const LONGEST_SHEET: usize = 65_535;

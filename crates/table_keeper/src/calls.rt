@@ -12,9 +12,9 @@ use domain::listing::Listing;
 use domain::refusal::Refusal;
 use domain::table::check_room;
 use domain::term::Term;
-use keeper::fault::KeeperFault;
-use keeper::keeper::Keeper;
-use keeper::write_out::WrittenOut;
+use keeper::KeeperFault;
+use keeper::Keeper;
+use keeper::WrittenOut;
 use rules::work::{Bind, Forget, Join, Rule};
 
 impl TableKeeper {

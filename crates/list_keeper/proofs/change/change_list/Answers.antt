@@ -1,25 +1,27 @@
 use Rattle.std.proofs.Common.{◌≡◌, length, Some, refl, arith}
+use Rattle.domain.specs.Changes.{Makes, lent_change, change_tests}
 use Rattle.domain.specs.Refusals.{first_of}
 use Rattle.domain.specs.Tables.{told_with}
+use Rattle.domain.proofs.ChangeLaws.{change_allowed}
 use Rattle.rules.proofs.Lending.{rule_made}
 use Rattle.list_keeper.proofs.Changes.{changes_stored}
 use Rattle.list_keeper.specs.Tells.{tells, told_by}
 use Rattle.list_keeper.proofs.change.change_list.Goals as goal
 
 pub load-requires : goal.load-requires
-load-requires g c = c.requires c.in_ok-opened.opened (grind arith)
+load-requires c = c.requires c.in_ok-opened.opened (grind arith)
 
 pub returns-clause-changes : goal.returns-clause-changes
-returns-clause-changes g c =
-    let rule = c.args.rule in
+returns-clause-changes c =
+    let change = lent_change c.args.change in
     let head = c.in_ok-opened.opened in
     let list = c.args.list.now in
     let size = length c.args.scratch.now in
     let is : c.args.head.now ≡ Some head = grind arith in
     let kept = c.requires head is in
     let made =
-    rule_made (g.R.Rule.gives rule) (λ n k. first_of (g.R.Rule.tests rule n k)) head.marks (tells head list) c.load.new.table size
-    kept.some kept.few refl (omega arith) (λ none. g.met.R.Rule.room rule head.marks.positions size none)
-    c.load.ensures c.in_ok-left.left c.work.new.table c.in_ok-left.ensures.gives in
-    changes_stored (g.R.Rule.gives rule) (g.R.Rule.tests rule) size (length list) c.args.head.now head list is kept.some
-    (told_by c.store.new.head c.store.new.list) c.store.result (told_with c.in_ok-left.left c.work.new.table) made.0 made.1 c.store.ensures.stores
+    rule_made (Makes change) (λ n k. first_of (change_tests n change k)) head.outline (tells head list) c.load.new.table size
+    kept.some kept.few refl (omega arith) (λ none. (change_allowed head.outline.positions change size none).1)
+    c.load.ensures c.in_ok-left.left c.change_table.new.table c.in_ok-left.ensures.gives in
+    changes_stored change size (length list) c.args.head.now head list is kept.some
+    (told_by c.store.new.head c.store.new.list) c.store.result (told_with c.in_ok-left.left c.change_table.new.table) made.0 made.1 c.store.ensures.stores

@@ -12,11 +12,11 @@ use Rattle.list_keeper.proofs.store.store.Goals as goal
 
 pub returns-in_err-count : goal.returns-in_err-count
 returns-in_err-count c =
-    let m = c.args.marks in
+    let m = c.args.outline in
     let failed = was_err c.map_err.result _ c.write_core.result c.in_err-count.field-0.0 c.map_err.ensures.cases c.in_err-count.was in
     let fault = err_from_is_err_and c.from_residual.result c.from_residual.ensures.1 in
     let r = refused m c.args.table.now c.args.list.now c.write_core.new.list failed.0 c.requires.some c.requires.few
-    (rw failed.1 at c.write_core.ensures m.free m.linear) in
+    (rw failed.1 at c.write_core.ensures) in
     record {
       kept = subst (λ (l : List ℕ). ForSome c.args.head.now (λ h. Kept h l)) (sym r.1) c.requires.kept;
       untouched = λ _. r.1;
@@ -25,15 +25,15 @@ returns-in_err-count c =
 
 pub clear-requires : goal.clear-requires
 clear-requires c =
-    let m = c.args.marks in
-    let w = wrote m c.args.table.now _ c.write_core.result c.map_err.ensures.cases c.in_ok-count.was (c.write_core.ensures m.free m.linear) in
+    let m = c.args.outline in
+    let w = wrote m c.args.table.now _ c.write_core.result c.map_err.ensures.cases c.in_ok-count.was (c.write_core.ensures) in
     let same : length c.write_core.new.list ≡ length c.args.list.now = omega arith in
     omega (arith, fills_inside c.args.list.now c.write_core.new.list c.in_ok-count.count w same)
 
 pub returns : goal.returns
 returns c =
-    let m = c.args.marks in
-    let w = wrote m c.args.table.now _ c.write_core.result c.map_err.ensures.cases c.in_ok-count.was (c.write_core.ensures m.free m.linear) in
+    let m = c.args.outline in
+    let w = wrote m c.args.table.now _ c.write_core.result c.map_err.ensures.cases c.in_ok-count.was (c.write_core.ensures) in
     let same : length c.write_core.new.list ≡ length c.args.list.now = omega arith in
     let long : length c.clear.new.list ≡ length c.args.list.now = omega arith in
     let s = stored m c.args.table.now c.args.list.now c.write_core.new.list c.clear.new.list c.in_ok-count.count c.requires.some c.requires.few w same long c.clear.ensures.front c.clear.ensures.zero in

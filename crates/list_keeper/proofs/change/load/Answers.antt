@@ -1,6 +1,6 @@
 use Rattle.std.proofs.Common.{◌≡◌, length, arith}
 use Rattle.list_keeper.proofs.Changes.{loaded_told}
-use Rattle.list_keeper.proofs.load.load.Goals as goal
+use Rattle.list_keeper.proofs.change.load.Goals as goal
 
 pub returns : goal.returns
 returns c = λ room.

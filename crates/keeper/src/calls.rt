@@ -29,15 +29,18 @@ pub trait Keeper {
 
     /// Makes the new description of n positions.
     fn open(&mut self, n: u8, scratch: &mut [u8]) -> Result<(), KeeperFault>
-        ensures opens { Opens (capacity self.old) n (length scratch.old) (told self.old) (told self.new) result }
+        ensures opens { Opens (capacity self.old) n (length scratch.old) (told self.old)
+            (told self.new) result }
         ensures keeps { keeps (New n) self.old self.new result }
         ensures same_capacity { capacity self.new ≡ capacity self.old };
 
     /// Changes the description by the call that is given as a value.
     fn change(&mut self, change: Change<&[u16]>, scratch: &mut [u8]) -> Result<(), KeeperFault>
-        ensures changes { ChangesBy (lent_change change.entry) (capacity self.old) (length scratch.old)
+        ensures changes { ChangesBy (lent_change change.entry) (capacity self.old)
+            (length scratch.old)
             (told self.old) (told self.new) result }
-        ensures keeps { keeps (Makes (lent_change change.entry) (told self.old)) self.old self.new result }
+        ensures keeps { keeps (Makes (lent_change change.entry) (told self.old)) self.old self.new
+            result }
         ensures same_capacity { capacity self.new ≡ capacity self.old };
 
     /// Binds a position to a term.
@@ -47,9 +50,11 @@ pub trait Keeper {
         term: Term,
         scratch: &mut [u8],
     ) -> Result<(), KeeperFault>
-        ensures binds { ChangesBy (Change.Bind position term) (capacity self.old) (length scratch.old)
+        ensures binds { ChangesBy (Change.Bind position term) (capacity self.old)
+            (length scratch.old)
             (told self.old) (told self.new) result }
-        ensures keeps { keeps (Makes (Change.Bind position term) (told self.old)) self.old self.new result }
+        ensures keeps { keeps (Makes (Change.Bind position term) (told self.old)) self.old self.new
+            result }
         ensures same_capacity { capacity self.new ≡ capacity self.old }
     {
         self.change(Change::Bind { position, term }, scratch)
@@ -57,9 +62,11 @@ pub trait Keeper {
 
     /// Joins the description with another.
     final fn join(&mut self, other: Listing<&[u16]>, scratch: &mut [u8]) -> Result<(), KeeperFault>
-        ensures joins { ChangesBy (Change.Join (lent_listing other.entry)) (capacity self.old) (length scratch.old)
+        ensures joins { ChangesBy (Change.Join (lent_listing other.entry)) (capacity self.old)
+            (length scratch.old)
             (told self.old) (told self.new) result }
-        ensures keeps { keeps (Makes (Change.Join (lent_listing other.entry)) (told self.old)) self.old self.new result }
+        ensures keeps { keeps (Makes (Change.Join (lent_listing other.entry)) (told self.old))
+            self.old self.new result }
         ensures same_capacity { capacity self.new ≡ capacity self.old }
     {
         self.change(Change::Join(other), scratch)
@@ -82,15 +89,18 @@ pub trait Keeper {
 
     /// Is the position free?
     fn is_free(&self, position: u8) -> Result<bool, KeeperFault>
-        ensures { Answers (ask_refusal (told self.now) position) (IsFree (told self.now) position) result };
+        ensures { Answers (ask_refusal (told self.now) position) (IsFree (told self.now) position)
+            result };
 
     /// Is the position linear?
     fn is_linear(&self, position: u8) -> Result<bool, KeeperFault>
-        ensures { Answers (ask_refusal (told self.now) position) (IsLinear (told self.now) position) result };
+        ensures { Answers (ask_refusal (told self.now) position) (IsLinear (told self.now) position)
+            result };
 
     /// Does one group hold both positions?
     fn share(&self, p: u8, q: u8) -> Result<bool, KeeperFault>
-        ensures { Answers (pair_refusal (told self.now) p q) (Share (Group (told self.now)) p q) result };
+        ensures { Answers (pair_refusal (told self.now) p q) (Share (Group (told self.now)) p q)
+            result };
 
     /// Puts the core at the start of a list, whose other entries stay.
     fn write_out(&self, list: &mut [u16]) -> Result<WrittenOut, KeeperFault>

@@ -2,7 +2,7 @@
 ghost use Rattle.keeper.specs.Questions.{Asks};
 
 use crate::fault::KeeperFault;
-use crate::keeper::Keeper;
+use crate::calls::Keeper;
 
 /// A question, with the positions that it is about.
 #[derive(Clone, Copy, PartialEq, Eq, Debug)]

@@ -1,7 +1,7 @@
 use Rattle.std.proofs.Common.{Err, refl, arith}
 use Rattle.roll.specs.declared.not_added.NotAdded.TheVariants.{Held}
 use Rattle.roll.proofs.Rolls.{added_there, added_in_order, added_kept, added_last}
-use Rattle.roll.proofs.roll.Roll.add.Goals as goal
+use Rattle.roll.proofs.entries.Roll.add.Goals as goal
 
 pub returns-then-holds-clause-appended : goal.returns-then-holds-clause-appended
 returns-then-holds-clause-appended g c =

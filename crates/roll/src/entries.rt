@@ -1,15 +1,24 @@
-//! The calls of a roll.
-ghost use Rattle.std.specs.Prelude.{◌≡◌, ◌↔◌, length, IsTrue, Contains};
+//! The roll, and what is asked of it.
+ghost use Rattle.std.specs.Prelude.{◌≡◌, ◌↔◌, ◌≤◌, length, IsTrue, Contains};
 ghost use Rattle.roll.specs.Rolls.{Adds, Appends, Counts, Holds, IsInOrder, used_after};
-ghost use Rattle.roll.specs.Views.{in_use, loan_of, slots, used_in};
 
 use crate::insertion::place_of;
 use crate::key::{Keyed, Ranked};
 use crate::not_added::NotAdded;
-use crate::roll::Roll;
 use crate::search::{count_key, holds_key};
 
+/// An ordered list over lent memory. The entries in use stand at the start of the slice, in the order of their
+/// keys, and those behind them are spare.
+#[derive(Drop)]
+pub struct Roll<'a, T> {
+    entries: &'a mut [T],
+    used: usize,
+    ghost within: { used ≤ length entries.now },
+}
+
 impl<'a, T> Roll<'a, T> {
+    ghost use Rattle.roll.specs.Views.{in_use, loan_of, slots, used_in};
+
     /// The empty roll over a slice that is lent to it.
     pub fn over(entries: &'a mut [T]) -> Roll<'a, T>
         ensures empty { used_in result ≡ 0 }
@@ -42,6 +51,8 @@ impl<'a, T> Roll<'a, T> {
 }
 
 impl<T: Keyed> Roll<'_, T> {
+    ghost use Rattle.roll.specs.Views.{in_use};
+
     /// Whether some entry in use has the key.
     pub fn holds(&self, key: &T::Key) -> bool
         ensures { IsTrue result ↔ Holds T.Keyed.key key.now (in_use self.now) }
@@ -61,6 +72,8 @@ impl<T: Keyed + Copy> Roll<'_, T>
 where
     T::Key: Ranked,
 {
+    ghost use Rattle.roll.specs.Views.{in_use, loan_of, slots, used_in};
+
     /// Adds an entry in its place, unless its key is held or no entry is spare. A roll in order stays in order,
     /// no entry in use is lost, and an entry above all others goes behind them.
     pub fn add(&mut self, entry: T) -> Result<(), NotAdded>

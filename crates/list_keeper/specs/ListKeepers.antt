@@ -1,0 +1,29 @@
+-- What a list keeper shows of itself.
+use Rattle.std.specs.Prelude.{◌≡◌, ℕ, List, length}
+use Rattle.std.specs.Borrow.{MutBor}
+use Rattle.std.specs.Option.{ForSome, ForNone}
+use Rattle.domain.specs.Told.{Told}
+use Rattle.list_keeper.specs.Keeping.{LaysOut}
+use Rattle.list_keeper.specs.Tells.{tells, told_by}
+use Rattle.list_keeper.specs.declared.ListKeeper.{ListKeeper}
+
+-- what it tells
+abbrev pub told : ListKeeper → Told
+told k = told_by k.head k.list.now
+
+-- how many core groups it has room for: as many as its list has entries
+abbrev pub capacity_of : ListKeeper → ℕ
+capacity_of k = length k.list.now
+
+-- its list is the one that is lent, as it stands
+pub record IsOver (k : ListKeeper) (list : MutBor (List ℕ)) : Type 0 where
+  pub lent : k.list.ghost_name ≡ list.ghost_name
+  pub same : k.list.now ≡ list.old
+
+-- A call leaves the list that was lent, as long as it was. While the keeper is not opened the list stays as it was;
+-- from then on the core of what is told is laid out in it.
+pub record KeepsList (before after : ListKeeper) : Type 0 where
+  pub lent : after.list.ghost_name ≡ before.list.ghost_name
+  pub long : length after.list.now ≡ length before.list.now
+  pub untouched : ForNone after.head (after.list.now ≡ before.list.now)
+  pub laid_out : ForSome after.head (λ h. LaysOut (tells h after.list.now) after.list.now)
