@@ -3,8 +3,7 @@ ghost use Rattle.std.specs.Prelude.{◌≡◌};
 ghost use Rattle.agreement.specs.Comparing.{Compared};
 ghost use Rattle.agreement.specs.Laws.{AlikeAreNotToldApart};
 
-use keeper::KeeperFault;
-use keeper::Keeper;
+use keeper::{Keeper, KeeperFault};
 
 /// Whether two keepers tell the same marks and cover the same pairs, by the cores that they write into two
 /// lists. Keepers of equal capacity and number of positions whose reckoned descriptions are alike cannot be

@@ -5,8 +5,7 @@ ghost use Rattle.agreement.specs.Laws.{OneReckoned};
 ghost use Rattle.agreement.specs.Sessions.{Called};
 
 use crate::call::{KeeperAnswer, KeeperCall};
-use keeper::KeeperFault;
-use keeper::Keeper;
+use keeper::{Keeper, KeeperFault};
 
 /// Gives a keeper one call. A write-out puts the core into `list`; what `scratch` holds afterwards is free.
 pub fn give<K: Keeper>(

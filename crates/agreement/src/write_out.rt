@@ -2,9 +2,7 @@
 ghost use Rattle.agreement.specs.Laws.{WriteOutIsLeast};
 ghost use Rattle.keeper.specs.Calls.{Writes};
 
-use keeper::KeeperFault;
-use keeper::Keeper;
-use keeper::WrittenOut;
+use keeper::{Keeper, KeeperFault, WrittenOut};
 
 /// Writes the core at the start of a list. Of all lists that cover what the keeper's reckoned description
 /// covers, it is the least.

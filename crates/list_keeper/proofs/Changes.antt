@@ -3,7 +3,7 @@ use Rattle.std.proofs.Common.{◌≡◌, ℕ, ◌/◌, ◌^◌, ◌<◌, ◌≤�
 use Rattle.std.proofs.lemmas.Bool.{ne_eqb, false≢true}
 use Rattle.coverage.proofs.Cover.{same_turned, same_trans, same_groups}
 use Rattle.coverage.proofs.CoreLeast.{core_same, dec_group}
-use Rattle.coverage.proofs.OneResult.{one_told}
+use Rattle.coverage.proofs.ChangeLaws.{one_told}
 use Rattle.domain.specs.Changes.{Makes, change_tests}
 use Rattle.domain.specs.Coverage.{Alike, Core, Listed}
 use Rattle.domain.specs.Masks.{In}
