@@ -2,7 +2,7 @@ use Rattle.std.proofs.Common.{◌≡◌, ◌∙◌, rules}
 use lib.Bits.{bit_or}
 use Rattle.std.specs.List.{fold}
 use Rattle.domain.proofs.Joining.{fold_held}
-use Rattle.rules.proofs.rule.join_request.held_by.Goals as goal
+use Rattle.rules.proofs.rule.check.held_by.Goals as goal
 
 pub returns : goal.returns
 returns c =
