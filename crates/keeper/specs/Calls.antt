@@ -38,6 +38,10 @@ Answers None Holds (Err f) = ⊥
 abbrev pub Exactly : Told → Told → Type 0
 Exactly e after = e ≡ after
 
+-- what is told before the open: no positions, so nothing else
+abbrev pub unopened : Told
+unopened = record { n = 0; groups = λ g. false; marks = record { free = 0; linear = 0 } }
+
 -- the tests of each call, in the keeper's order
 abbrev pub opened : Told → Bool
 opened d = not (d.n == 0)
