@@ -10,8 +10,7 @@ use domain::refusal::Refusal;
 use keeper::Keeper;
 use reader::state::State;
 use roll::Roll;
-use sheet::{ReaderFault, RunnerFault, SheetFault};
-use sheet::StepMark;
+use sheet::{ReaderFault, RunnerFault, SheetFault, StepMark};
 
 // No sheet has more bytes.
 pub const LONGEST_SHEET: usize = 65_535;

@@ -4,8 +4,7 @@ ghost use Rattle.sheet.specs.Steps.{Inside, group_count};
 ghost use Rattle.runner.specs.Serving.{Serves};
 
 use domain::listing::Listing;
-use keeper::KeeperFault;
-use keeper::Keeper;
+use keeper::{Keeper, KeeperFault};
 use reader::groups::copy_groups;
 use sheet::Step;
 

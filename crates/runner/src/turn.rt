@@ -10,8 +10,7 @@ use keeper::Keeper;
 use reader::next::next_step;
 use reader::state::State;
 use roll::Roll;
-use sheet::RunnerFault;
-use sheet::StepMark;
+use sheet::{RunnerFault, StepMark};
 
 // Where a runner stands: its state, the place of the next record and the number of the next step.
 #[derive(Clone, Copy)]
