@@ -1,8 +1,8 @@
 //! Questions to a keeper, as values.
 ghost use Rattle.keeper.specs.Questions.{Asks};
 
-use crate::fault::KeeperFault;
 use crate::calls::Keeper;
+use crate::fault::KeeperFault;
 
 /// A question, with the positions that it is about.
 #[derive(Clone, Copy, PartialEq, Eq, Debug)]

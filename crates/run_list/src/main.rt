@@ -1,5 +1,4 @@
-// Runs a sheet from standard input on the list keeper: a program of its own, with `run_table` beside it, since a
-// sheet names no keeper.
+//! Runs a sheet from standard input on the list keeper.
 #![tactic(auto)]
 
 use console::run_input;

@@ -1,7 +1,9 @@
-// The room that the program gives its keeper.
+//! The room that the program gives its keeper.
 use crate::CAPACITY;
 use console::run_sheet;
+use domain::limits::TABLE_BYTES;
 use domain::listing::Listing;
+use domain::marks::Marks;
 use domain::refusal::Refusal;
 use keeper::{Keeper, KeeperFault};
 use list_keeper::ListKeeper;
@@ -25,22 +27,26 @@ fn pairs() -> [u16; 52] {
 fn a_core_of_64_groups_fits_and_one_of_65_does_not(rt: HostRuntime) -> Result<(), Fail> {
     let mut list = [0; CAPACITY];
     let mut keeper = ListKeeper::new(&mut list);
-    let mut scratch = [0; 512];
+    let mut scratch = [0; TABLE_BYTES];
     let pairs = pairs();
     // each of 12 positions alone, and 52 pairs
     keeper.open(12, &mut scratch)?;
-    let fits = Listing {
-        free: 0,
-        linear: 4_095,
+    let fits: Listing<&[u16]> = Listing {
+        marks: Marks {
+            free: 0,
+            linear: 4_095,
+        },
         groups: &pairs,
     };
     assert_eq!(rt; keeper.join(fits, &mut scratch), Ok(()));
     let full = Err(KeeperFault {
         refusal: Refusal::Capacity,
     });
-    let one_more = Listing {
-        free: 0,
-        linear: 4_095,
+    let one_more: Listing<&[u16]> = Listing {
+        marks: Marks {
+            free: 0,
+            linear: 4_095,
+        },
         groups: &[1_152],
     };
     assert_eq!(rt; keeper.join(one_more, &mut scratch), full);

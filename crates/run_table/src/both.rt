@@ -1,7 +1,10 @@
-// Both keepers, opened alike and given one list of calls.
+//! Both keepers, opened alike and given one list of calls.
 use agreement::call::{KeeperAnswer, KeeperCall};
 use agreement::session::give_all;
+use domain::change::Change;
+use domain::limits::TABLE_BYTES;
 use domain::listing::Listing;
+use domain::marks::Marks;
 use domain::refusal::Refusal;
 use domain::term::Term;
 use keeper::{Keeper, KeeperFault, Question, WrittenOut};
@@ -16,31 +19,29 @@ fn give_calls<K: Keeper>(
     list: &mut [u16],
     answers: &mut [Result<KeeperAnswer, KeeperFault>],
 ) -> Result<usize, KeeperFault> {
-    let calls = [
-        KeeperCall::Bind {
+    let calls: [KeeperCall<&[u16]>; 10] = [
+        KeeperCall::Change(Change::Bind {
             position: 0,
             // f(1, 2)
             term: Term::over(6, 0),
-        },
+        }),
         KeeperCall::Ask(Question::Pair(0, 2)),
         KeeperCall::Ask(Question::Pair(1, 2)),
         KeeperCall::Ask(Question::Free(0)),
         KeeperCall::Ask(Question::Linear(0)),
-        KeeperCall::Join(Listing {
-            free: 6,
-            linear: 7,
+        KeeperCall::Change(Change::Join(Listing {
+            marks: Marks { free: 6, linear: 7 },
             groups: &[6, 4],
-        }),
-        KeeperCall::Join(Listing {
-            free: 4,
-            linear: 7,
+        })),
+        KeeperCall::Change(Change::Join(Listing {
+            marks: Marks { free: 4, linear: 7 },
             groups: &[4],
-        }),
-        KeeperCall::Forget(2),
+        })),
+        KeeperCall::Change(Change::Forget(2)),
         KeeperCall::Ask(Question::Ground(3)),
         KeeperCall::WriteOut,
     ];
-    let mut scratch = [0; 512];
+    let mut scratch = [0; TABLE_BYTES];
     keeper.open(3, &mut scratch)?;
     Ok(give_all(keeper, &calls, &mut scratch, list, answers))
 }
@@ -69,8 +70,10 @@ fn both_keepers_answer_alike(rt: HostRuntime) -> Result<(), Fail> {
         table_answers[9]
             == Ok(KeeperAnswer::Wrote(WrittenOut {
                 count: 4,
-                free: 6,
-                linear: 7,
+                marks: Marks {
+                    free: 6,
+                    linear: 7,
+                },
             }))
     );
     Ok(())

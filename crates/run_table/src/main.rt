@@ -1,5 +1,4 @@
-// Runs a sheet from standard input on the table keeper: a program of its own, with `run_list` beside it, since a
-// sheet names no keeper.
+//! Runs a sheet from standard input on the table keeper.
 #![tactic(auto)]
 
 use console::run_input;

@@ -1,11 +1,13 @@
-// Whole sheets, and what is printed of them.
+//! Whole sheets, and what is printed of them.
 use console::run_sheet;
+use domain::limits::TABLE_BYTES;
 use domain::listing::Listing;
+use domain::marks::Marks;
 use domain::refusal::{Layer, Refusal};
 use domain::term::Term;
 use keeper::{Keeper, KeeperFault};
-use runner::run::run;
-use sheet::{Refused, StepKind, StepMark};
+use runner::{WorkLists, run};
+use sheet::{LONGEST_SHEET, Refused, StepKind, StepMark};
 use std::alloc::Global;
 use std::process::Abort;
 use std::test::Fail;
@@ -209,13 +211,15 @@ fn worked_binds(rt: HostRuntime) -> Result<(), Fail> {
 fn short_work_lists(rt: HostRuntime) -> Result<(), Fail> {
     let sheet = b"\x01\x00\x01\x00\x02\x00\x00\x06\x00";
     let mut marks = [StepMark::blank(); 1];
-    let mut scratch = [0u8; 512];
+    let mut scratch = [0u8; TABLE_BYTES];
     let Err(fault) = run(
         &mut TableKeeper::new(),
         sheet,
-        &mut marks,
-        &mut [],
-        &mut scratch,
+        &mut WorkLists {
+            marks: &mut marks,
+            groups: &mut [],
+            scratch: &mut scratch,
+        },
     ) else {
         return Err(Fail::new("there is room for one mark only"));
     };
@@ -231,9 +235,11 @@ fn short_work_lists(rt: HostRuntime) -> Result<(), Fail> {
     let Err(fault) = run(
         &mut TableKeeper::new(),
         sheet,
-        &mut marks,
-        &mut [],
-        &mut scratch[0..511],
+        &mut WorkLists {
+            marks: &mut marks,
+            groups: &mut [],
+            scratch: &mut scratch[0..TABLE_BYTES - 1],
+        },
     ) else {
         return Err(Fail::new("scratch is one byte short"));
     };
@@ -255,13 +261,15 @@ fn one_group_too_few(rt: HostRuntime) -> Result<(), Fail> {
     let sheet =
         b"\x01\x00\x01\x00\x02\x08\x00\x03\x00\x03\x00\x03\x00\x01\x00\x02\x00\x00\x00\x06\x00";
     let mut marks = [StepMark::blank(); 3];
-    let mut scratch = [0u8; 512];
+    let mut scratch = [0u8; TABLE_BYTES];
     let Err(fault) = run(
         &mut TableKeeper::new(),
         sheet,
-        &mut marks,
-        &mut [0; 1],
-        &mut scratch,
+        &mut WorkLists {
+            marks: &mut marks,
+            groups: &mut [0; 1],
+            scratch: &mut scratch,
+        },
     ) else {
         return Err(Fail::new("there is room for one group only"));
     };
@@ -291,13 +299,15 @@ fn mark(place: u16, kind: StepKind, answer: bool) -> StepMark {
 #[test]
 fn a_mark_for_each_step(rt: HostRuntime) -> Result<(), Fail> {
     let mut marks = [StepMark::blank(); 3];
-    let mut scratch = [0u8; 512];
+    let mut scratch = [0u8; TABLE_BYTES];
     let Ok(steps) = run(
         &mut TableKeeper::new(),
         &THREE_STEPS,
-        &mut marks,
-        &mut [],
-        &mut scratch,
+        &mut WorkLists {
+            marks: &mut marks,
+            groups: &mut [],
+            scratch: &mut scratch,
+        },
     ) else {
         return Err(Fail::new("there is room for every mark"));
     };
@@ -317,13 +327,15 @@ fn a_mark_for_each_step(rt: HostRuntime) -> Result<(), Fail> {
 #[test]
 fn one_mark_too_few(rt: HostRuntime) -> Result<(), Fail> {
     let mut marks = [StepMark::blank(); 3];
-    let mut scratch = [0u8; 512];
+    let mut scratch = [0u8; TABLE_BYTES];
     let Err(fault) = run(
         &mut TableKeeper::new(),
         &THREE_STEPS,
-        &mut marks[0..2],
-        &mut [],
-        &mut scratch,
+        &mut WorkLists {
+            marks: &mut marks[0..2],
+            groups: &mut [],
+            scratch: &mut scratch,
+        },
     ) else {
         return Err(Fail::new("there is room for two marks only"));
     };
@@ -351,7 +363,7 @@ fn one_mark_too_few(rt: HostRuntime) -> Result<(), Fail> {
 #[test]
 fn long_sheets(rt: HostRuntime) -> Result<(), Fail> {
     let heap = rt.alloc();
-    let mut bytes = vec![in heap; 0u8; 65_535]?;
+    let mut bytes = vec![in heap; 0u8; LONGEST_SHEET]?;
     prints(
         &rt,
         heap,
@@ -372,7 +384,7 @@ fn long_sheets(rt: HostRuntime) -> Result<(), Fail> {
 // Arguments that no sheet can give a keeper.
 #[test]
 fn calls_that_are_refused(rt: HostRuntime) -> Result<(), Fail> {
-    let mut scratch = [0u8; 512];
+    let mut scratch = [0u8; TABLE_BYTES];
     let mut keeper = TableKeeper::new();
     let term = Term {
         bare: true,
@@ -382,14 +394,16 @@ fn calls_that_are_refused(rt: HostRuntime) -> Result<(), Fail> {
     assert!(rt; is_refused(keeper.bind(0, term, &mut scratch), Refusal::Order));
     keeper.open(2, &mut scratch)?;
     assert!(rt; is_refused(keeper.open(2, &mut scratch), Refusal::Order));
-    assert!(rt; is_refused(keeper.bind(0, term, &mut scratch), Refusal::Marks));
+    assert!(rt; is_refused(keeper.bind(0, term, &mut scratch), Refusal::Masks));
     assert!(rt;
         is_refused(
             keeper.join(
                 Listing {
-                    free: 3,
-                    linear: 3,
-                    groups: &[2, 1]
+                    marks: Marks {
+                        free: 3,
+                        linear: 3,
+                    },
+                    groups: &[2, 1],
                 },
                 &mut scratch,
             ),
@@ -400,13 +414,15 @@ fn calls_that_are_refused(rt: HostRuntime) -> Result<(), Fail> {
         is_refused(
             keeper.join(
                 Listing {
-                    free: 3,
-                    linear: 1,
-                    groups: &[1, 2]
+                    marks: Marks {
+                        free: 3,
+                        linear: 1,
+                    },
+                    groups: &[1, 2],
                 },
                 &mut scratch,
             ),
-            Refusal::Marks
+            Refusal::Masks
         )
     );
     assert!(rt; is_refused(keeper.forget(4, &mut scratch), Refusal::Position));
