@@ -1,6 +1,6 @@
 -- The closed form of what the groups of a bind cover. What holds of a side is said once, over its mask a and the
 -- other side's, b.
-use Rattle.std.proofs.Common.{ℕ, ◌⊎◌, refl, subst, inl, inr}
+use Rattle.std.proofs.Common.{ℕ, ◌⊎◌, refl, inl, inr}
 use lib.Bits.{bit_or}
 use Rattle.domain.specs.Masks.{In, Within, Meets, without}
 use Rattle.domain.specs.Groups.{Side, Shared, Paired, Closure, one, more, Extended, alone, joined}
@@ -9,22 +9,22 @@ use Rattle.domain.specs.Binding.{Made, NewGroup, rest, made}
 use Rattle.domain.specs.declared.case.Case.{Case}
 use Rattle.domain.specs.declared.case.Case.TheVariants.{Free, BothLinear, PositionLinear, TermLinear, Neither}
 use Rattle.coverage.specs.BindLaws.{CoversApart, WithSide, SideCovered, UnitesLeft, UnitesRight, Linked, before, across, back, by_left, by_right, BindCovers, untouched, met}
-use Rattle.domain.proofs.Bits.{in_lacking, lacking_in, in_either, in_left, in_right, union_within, within_left, within_right, within_self, within_trans, meets_more}
-use Rattle.domain.proofs.Hull.{Sub, Inside, inside_more, closure_like}
-use Rattle.domain.proofs.Made.{shared_left, shared_right}
-use Rattle.coverage.proofs.Searching.{dec_meets}
+use Rattle.domain.proofs.Bits.{in_lacking, lacking_in, in_either, in_left, in_right, union_within, within_left, within_right, within_trans, meets_more}
+use Rattle.domain.proofs.Hull.{Sub, Inside, closure_like, pair_left, pair_right}
+use Rattle.domain.proofs.Made.{shared_left, shared_right, made_left, made_right}
+use Rattle.coverage.proofs.Searching.{dec_meets, in_sum}
 use Rattle.coverage.proofs.Cover.{covers_own, covers_wider, side_group}
 
 -- ---- what is covered after a bind hangs on what was covered before it alone
 
-module _ {C D : ℕ → ℕ → ℕ → Type 0} {w u : ℕ} (f : (p q : ℕ) → C w p q → D u p q) where
-  with_side_more : {a q : ℕ} → WithSide C a w q → WithSide D a u q
+module _ {C D : ℕ → ℕ → ℕ → Type 0} {w : ℕ} (f : (p q : ℕ) → C w p q → D w p q) where
+  with_side_more : {a q : ℕ} → WithSide C a w q → WithSide D a w q
   with_side_more {q = q} s = record { place = s.place; held = s.held; covered = f s.place q s.covered }
 
-  side_covered_more : {a : ℕ} → SideCovered C a w → SideCovered D a u
+  side_covered_more : {a : ℕ} → SideCovered C a w → SideCovered D a w
   side_covered_more s = record { place = s.place; held = s.held; covered = f s.place s.place s.covered }
 
-  linked_more : {a b : ℕ} {c : Case} {p q : ℕ} → Linked C a b c w p q → Linked D a b c u p q
+  linked_more : {a b : ℕ} {c : Case} {p q : ℕ} → Linked C a b c w p q → Linked D a b c w p q
   linked_more (before k) = before (f _ _ k)
   linked_more (across s t) = across (with_side_more s) (with_side_more t)
   linked_more (back t s) = back (with_side_more t) (with_side_more s)
@@ -39,233 +39,185 @@ bind_covers_more {w = w} f (met s t l) =
 
 -- ---- the two sides of a new group
 
--- u is a union of groups of A
-pub record UnionOf (A : ℕ → Type 0) (u : ℕ) : Type 0 where
-  pub some : Inside A u
-  pub each : (p : ℕ) → In p u → Covers A u p p
+-- each position of a union of groups of A is one of a group inside the union
+pub closure_covers : {A : ℕ → Type 0} {u p : ℕ} → Closure A u → In p u → Covers A u p p
+closure_covers (one k) i = covers_own k i i
+closure_covers (more {g = g} {h = h} k l) i =
+    elim (in_either g h i) [
+      | inl j ↦ covers_wider (within_left g h) (covers_own k j j)
+      | inr j ↦ covers_wider (within_right g h) (closure_covers l j)
+    ]
 
-one_union : {A : ℕ → Type 0} {u : ℕ} → A u → UnionOf A u
-one_union {u = u} k =
-    record { some = record { group = u; told = k; inside = within_self u }; each = λ p i. covers_own k i i }
+-- a position of a union of groups of a side, and some position of the side, in a window w around the union
+closure_near : {G : ℕ → Type 0} {a u w p : ℕ} → Closure (Side G a) u → Within u w → In p u → WithSide (Covers G) a w p
+closure_near k h i =
+    let c = closure_covers k i in
+    let at = c.told.left in
+    record { place = at.place; held = at.right; covered = covers_wider (within_trans c.inside h) (covers_own c.told.group at.left c.right) }
 
-two_union : {A : ℕ → Type 0} (g h : ℕ) → UnionOf A g → UnionOf A h → UnionOf A (bit_or g h)
-two_union g h m n =
-    record {
-      some = inside_more m.some (within_left g h);
-      each =
-          λ p i.
-          elim (in_either g h i) [
-            | inl j ↦ covers_wider (within_left g h) (m.each p j)
-            | inr j ↦ covers_wider (within_right g h) (n.each p j)
-          ];
-    }
-
-pub closure_union : {A : ℕ → Type 0} {u : ℕ} → Closure A u → UnionOf A u
-closure_union (one k) = one_union k
-closure_union (more {g = g} {h = h} k l) = two_union g h (one_union k) (closure_union l)
-
--- a position of a union of groups of a side, in a wider window v
-side_each : {G : ℕ → Type 0} {a u v p : ℕ} → Within u v → UnionOf (Side G a) u → In p u → WithSide (Covers G) a v p
-side_each {p = p} h m i =
-    let k = m.each p i in
+side_some : {G : ℕ → Type 0} {a u w : ℕ} → Inside (Side G a) u → Within u w → SideCovered (Covers G) a w
+side_some k h =
     let at = k.told.left in
-    record {
-      place = at.place;
-      held = at.right;
-      covered = covers_wider h (covers_wider k.inside (covers_own k.told.group at.left k.right));
-    }
+    record { place = at.place; held = at.right; covered = covers_wider (within_trans k.inside h) (covers_own k.told.group at.left at.left) }
 
-side_some : {G : ℕ → Type 0} {a u v : ℕ} → Within u v → UnionOf (Side G a) u → SideCovered (Covers G) a v
-side_some h m =
-    let at = m.some.told.left in
-    let k = side_each h m (m.some.inside.each at.place at.left) in
-    record {
-      place = k.place;
-      held = k.held;
-      covered = covers_wider k.covered.inside (covers_own k.covered.told k.covered.left k.covered.left);
-    }
-
--- what ties two positions of one side together: a group of both, one that the other side's mask b has near,
--- or that the groups of the side are united among themselves
+-- what ties two positions of one side together: a group of both, a group of the other side, whose mask is b, that
+-- holds one of them, or that the groups of the side are united among themselves
 data Tie (C : ℕ → ℕ → ℕ → Type 0) (b : ℕ) (U : Type 0) (w p q : ℕ) : Type 0 where
   own : C w p q → Tie C b U w p q
   first : WithSide C b w p → Tie C b U w p q
   second : WithSide C b w q → Tie C b U w p q
   united : U → Tie C b U w p q
 
--- u is a union of groups of the side, and each two positions of it are tied
-record NewSide (G : ℕ → Type 0) (a b : ℕ) (U : Type 0) (u : ℕ) : Type 0 where
-  union : UnionOf (Side G a) u
-  pair : (p q : ℕ) → In p u → In q u → Tie (Covers G) b U u p q
+-- one side of a new group: in the window w each position is covered with one of the side, and each two are tied
+record NewSide (G : ℕ → Type 0) (a b : ℕ) (U : Type 0) (w u : ℕ) : Type 0 where
+  near : (p : ℕ) → In p u → WithSide (Covers G) a w p
+  tied : (p q : ℕ) → In p u → In q u → Tie (Covers G) b U w p q
 
-module _ {G : ℕ → Type 0} {a b : ℕ} {U : Type 0} where
-  side_alone : Sub (Side G a) (NewSide G a b U)
-  side_alone u k = record { union = one_union k; pair = λ p q i j. own (covers_own k.group i j) }
+module _ {G : ℕ → Type 0} {a b : ℕ} {U : Type 0} {w : ℕ} where
+  side_alone : (u : ℕ) → Side G a u → Within u w → NewSide G a b U w u
+  side_alone u k h =
+      record { near = λ p. closure_near (one k) h; tied = λ p q i j. own (covers_wider h (covers_own k.group i j)) }
 
-  side_closed : U → Sub (Closure (Side G a)) (NewSide G a b U)
-  side_closed y u k = record { union = closure_union k; pair = λ p q i j. united y }
+  side_closed : U → (u : ℕ) → Closure (Side G a) u → Within u w → NewSide G a b U w u
+  side_closed y u k h = record { near = λ p. closure_near k h; tied = λ p q i j. united y }
 
   -- groups of S serve as groups of both sides
-  module _ {S : ℕ → Type 0} (to_a : Sub S (Side G a)) (to_b : Sub S (Side G b)) where
-    side_joined : (g s : ℕ) → Side G a g → Closure S s → NewSide G a b U (bit_or g s)
-    side_joined g s k l =
-        record {
-          union = two_union g s (one_union k) (closure_union (closure_like to_a l));
-          pair = λ p q i j. by (in_either g s i) (in_either g s j);
-        }
-      where
-        other : {p : ℕ} → In p s → WithSide (Covers G) b (bit_or g s) p
-        other i = side_each (within_right g s) (closure_union (closure_like to_b l)) i
+  side_extended : {S : ℕ → Type 0} → Sub S (Side G a) → Sub S (Side G b) → (u : ℕ) → Extended (Side G a) S u → Within u w → NewSide G a b U w u
+  side_extended to_a to_b u (alone k) h = side_alone u k h
+  side_extended {S} to_a to_b u (joined k) h =
+      record {
+        near = λ p i. closure_near (more k.in_left (closure_like to_a k.in_right)) (rw k.whole h) (rw k.whole i);
+        tied = λ p q i j. by (in_either k.left k.right (rw k.whole i)) (in_either k.left k.right (rw k.whole j));
+      }
+    where
+      other : {p : ℕ} → In p k.right → WithSide (Covers G) b w p
+      other i = closure_near (closure_like to_b k.in_right) (within_trans (pair_right k) h) i
 
-        by : {p q : ℕ} → In p g ⊎ In p s → In q g ⊎ In q s → Tie (Covers G) b U (bit_or g s) p q
-        by (inl i) (inl j) = own (covers_wider (within_left g s) (covers_own k.group i j))
-        by (inl i) (inr j) = second (other j)
-        by (inr i) j = first (other i)
-
-    side_extended : Sub (Extended (Side G a) S) (NewSide G a b U)
-    side_extended u (alone k) = side_alone u k
-    side_extended u (joined k) =
-        subst (NewSide G a b U) k.whole (side_joined k.left k.right k.in_left k.in_right)
-
-paired_more : {A B P Q : ℕ → Type 0} {u : ℕ} → Sub A P → Sub B Q → Paired A B u → Paired P Q u
-paired_more f g k =
-    record { left = k.left; right = k.right; in_left = f k.left k.in_left; in_right = g k.right k.in_right; whole = k.whole }
-
--- each group that a case makes is the union of two such sides
-module _ (G : ℕ → Type 0) (a b : ℕ) where
-  left : {U : Type 0} → Sub (Extended (Side G a) (Shared G a b)) (NewSide G a b U)
-  left = side_extended (shared_left G a b) (shared_right G a b)
-
-  right : {U : Type 0} → Sub (Extended (Side G b) (Shared G a b)) (NewSide G b a U)
-  right = side_extended (shared_right G a b) (shared_left G a b)
-
-  made_sides : (c : Case) (u : ℕ) → Made G a b c u → Paired (NewSide G a b (UnitesLeft c)) (NewSide G b a (UnitesRight c)) u
-  made_sides Free u m = paired_more side_alone side_alone m
-  made_sides BothLinear u m = paired_more left right m
-  made_sides PositionLinear u m = paired_more (side_closed tt) right m
-  made_sides TermLinear u m = paired_more left (side_closed tt) m
-  made_sides Neither u m = paired_more (side_closed tt) (side_closed tt) m
+      by : {p q : ℕ} → In p k.left ⊎ In p k.right → In q k.left ⊎ In q k.right → Tie (Covers G) b U w p q
+      by (inl i) (inl j) = own (covers_wider (within_trans (pair_left k) h) (covers_own k.in_left.group i j))
+      by (inl i) (inr j) = second (other j)
+      by (inr i) j = first (other i)
 
 -- ---- from the new groups to the closed form
 
-module _ {C : ℕ → ℕ → ℕ → Type 0} {a b : ℕ} {c : Case} {w p q : ℕ} where
-  left_linked : Tie C b (UnitesLeft c) w p q → WithSide C a w p → WithSide C a w q → Linked C a b c w p q
-  left_linked (own k) s t = before k
-  left_linked (first k) s t = back k t
-  left_linked (second k) s t = across s k
-  left_linked (united y) s t = by_left y s t
+left_linked : {C : ℕ → ℕ → ℕ → Type 0} {a b : ℕ} {c : Case} {w p q : ℕ} → Tie C b (UnitesLeft c) w p q → WithSide C a w p → WithSide C a w q → Linked C a b c w p q
+left_linked (own k) s t = before k
+left_linked (first k) s t = back k t
+left_linked (second k) s t = across s k
+left_linked (united y) s t = by_left y s t
 
-  right_linked : Tie C a (UnitesRight c) w p q → WithSide C b w p → WithSide C b w q → Linked C a b c w p q
-  right_linked (own k) s t = before k
-  right_linked (first k) s t = across k t
-  right_linked (second k) s t = back s k
-  right_linked (united y) s t = by_right y s t
+right_linked : {C : ℕ → ℕ → ℕ → Type 0} {a b : ℕ} {c : Case} {w p q : ℕ} → Tie C a (UnitesRight c) w p q → WithSide C b w p → WithSide C b w q → Linked C a b c w p q
+right_linked (own k) s t = before k
+right_linked (first k) s t = across k t
+right_linked (second k) s t = back s k
+right_linked (united y) s t = by_right y s t
 
-tie_more : {C : ℕ → ℕ → ℕ → Type 0} {b : ℕ} {U : Type 0} {w u p q : ℕ} → ((p q : ℕ) → C w p q → C u p q) → Tie C b U w p q → Tie C b U u p q
-tie_more f (own k) = own (f _ _ k)
-tie_more f (first k) = first (with_side_more f k)
-tie_more f (second k) = second (with_side_more f k)
-tie_more f (united y) = united y
+module _ {G : ℕ → Type 0} {a b : ℕ} where
+  paired_linked : {A B : ℕ → Type 0} {c : Case} {u w p q : ℕ} → ((l : ℕ) → A l → Within l w → NewSide G a b (UnitesLeft c) w l)
+      → ((r : ℕ) → B r → Within r w → NewSide G b a (UnitesRight c) w r) → Paired A B u → Within u w → In p u → In q u → Linked (Covers G) a b c w p q
+  paired_linked {c = c} {w = w} f g k h i j = by (in_either k.left k.right (rw k.whole i)) (in_either k.left k.right (rw k.whole j))
+    where
+      s : NewSide G a b (UnitesLeft c) w k.left
+      s = f k.left k.in_left (within_trans (pair_left k) h)
 
-sides_cover : {G : ℕ → Type 0} {a b : ℕ} {c : Case} {w p q : ℕ} (l r : ℕ) → NewSide G a b (UnitesLeft c) l → NewSide G b a (UnitesRight c) r → In p (bit_or l r) → In q (bit_or l r) → Within (bit_or l r) w → BindCovers (Covers G) a b c w p q
-sides_cover {G} {a} {b} {c} {w} l r s t i j h =
-    met (side_some in_l s.union) (side_some in_r t.union) (by (in_either l r i) (in_either l r j))
-  where
-    in_l : Within l w
-    in_l = within_trans (within_left l r) h
+      t : NewSide G b a (UnitesRight c) w k.right
+      t = g k.right k.in_right (within_trans (pair_right k) h)
 
-    in_r : Within r w
-    in_r = within_trans (within_right l r) h
+      by : {p q : ℕ} → In p k.left ⊎ In p k.right → In q k.left ⊎ In q k.right → Linked (Covers G) a b c w p q
+      by (inl i) (inl j) = left_linked (s.tied _ _ i j) (s.near _ i) (s.near _ j)
+      by (inl i) (inr j) = across (s.near _ i) (t.near _ j)
+      by (inr i) (inl j) = back (t.near _ i) (s.near _ j)
+      by (inr i) (inr j) = right_linked (t.tied _ _ i j) (t.near _ i) (t.near _ j)
 
-    by : {p q : ℕ} → In p l ⊎ In p r → In q l ⊎ In q r → Linked (Covers G) a b c w p q
-    by (inl i) (inl j) =
-        left_linked (tie_more (λ p q. covers_wider in_l) (s.pair _ _ i j)) (side_each in_l s.union i) (side_each in_l s.union j)
-    by (inl i) (inr j) = across (side_each in_l s.union i) (side_each in_r t.union j)
-    by (inr i) (inl j) = back (side_each in_r t.union i) (side_each in_l s.union j)
-    by (inr i) (inr j) =
-        right_linked (tie_more (λ p q. covers_wider in_r) (t.pair _ _ i j)) (side_each in_r t.union i) (side_each in_r t.union j)
+  left : {U : Type 0} {w : ℕ} (l : ℕ) → Extended (Side G a) (Shared G a b) l → Within l w → NewSide G a b U w l
+  left = side_extended (shared_left G a b) (shared_right G a b)
 
-new_cover : {G : ℕ → Type 0} {a b : ℕ} {c : Case} {w p q : ℕ} (u : ℕ) → NewGroup G a b c u → In p u → In q u → Within u w → BindCovers (Covers G) a b c w p q
-new_cover u (rest k) i j h =
-    untouched (record { part = u; inside = h; left = k.left; right = k.right; covered = covers_own k.group i j })
-new_cover {G} {a} {b} {c} u (made m) i j h =
-    let k = made_sides G a b c u m in
-    sides_cover k.left k.right k.in_left k.in_right (rw k.whole i) (rw k.whole j) (rw k.whole h)
+  right : {U : Type 0} {w : ℕ} (r : ℕ) → Extended (Side G b) (Shared G a b) r → Within r w → NewSide G b a U w r
+  right = side_extended (shared_right G a b) (shared_left G a b)
+
+  made_linked : (c : Case) {u w p q : ℕ} → Made G a b c u → Within u w → In p u → In q u → Linked (Covers G) a b c w p q
+  made_linked Free m = paired_linked side_alone side_alone m
+  made_linked BothLinear m = paired_linked left right m
+  made_linked PositionLinear m = paired_linked (side_closed tt) right m
+  made_linked TermLinear m = paired_linked left (side_closed tt) m
+  made_linked Neither m = paired_linked (side_closed tt) (side_closed tt) m
 
 pub bind_cover_to : {G : ℕ → Type 0} {a b : ℕ} {c : Case} {w p q : ℕ} → Covers (NewGroup G a b c) w p q → BindCovers (Covers G) a b c w p q
-bind_cover_to k = new_cover k.group k.told k.left k.right k.inside
+bind_cover_to {G} {a} {b} {c} k =
+    elim k.told [
+      | rest n ↦
+          untouched (record { part = k.group; inside = k.inside; left = n.left; right = n.right; covered = covers_own n.group k.left k.right })
+      | made m ↦
+          met (side_some (made_left G a b c m) k.inside) (side_some (made_right G a b c m) k.inside)
+          (made_linked c m k.inside k.left k.right)
+    ]
 
 -- ---- and back
 
--- one group of A or, where U holds, two
-data OneOrTwo (U : Type 0) (A : ℕ → Type 0) : ℕ → Type 0 where
-  single : {g : ℕ} → A g → OneOrTwo U A g
-  double : {g h : ℕ} → U → A g → A h → OneOrTwo U A (bit_or g h)
+-- what of a side is united with what of the other, inside w: groups of A, and one alone where U does not hold
+record Arm (U : Type 0) (A : ℕ → Type 0) (w g : ℕ) : Type 0 where
+  closed : Closure A g
+  lone : (U → ⊥) → A g
+  inside : Within g w
 
-just_one : {A : ℕ → Type 0} {u : ℕ} → OneOrTwo ⊥ A u → A u
-just_one (single k) = k
-just_one (double y k l) = absurd y
+module _ {G : ℕ → Type 0} {U : Type 0} {a w : ℕ} where
+  arm : {p q : ℕ} (k : Covers G w p q) → In p a → Arm U (Side G a) w k.group
+  arm k h = let s = side_group k.told k.left h in record { closed = one s; lone = λ n. s; inside = k.inside }
 
-closed : {U : Type 0} {A : ℕ → Type 0} {u : ℕ} → OneOrTwo U A u → Closure A u
-closed (single k) = one k
-closed (double y k l) = more k (one l)
+  two_arm : {p q : ℕ} → U → (s : WithSide (Covers G) a w p) (t : WithSide (Covers G) a w q) → Arm U (Side G a) w (bit_or s.covered.group t.covered.group)
+  two_arm y s t =
+      let k = s.covered in
+      let l = t.covered in
+      record {
+        closed = more (side_group k.told k.left s.held) (one (side_group l.told l.left t.held));
+        lone = λ n. absurd (n y);
+        inside = union_within k.inside l.inside;
+      }
 
 pair : {A B : ℕ → Type 0} (l r : ℕ) → A l → B r → Paired A B (bit_or l r)
 pair l r s t = record { left = l; right = r; in_left = s; in_right = t; whole = refl }
 
--- in every case a group of each side are united, and before that two of a side where the case unites them
-united_made : {G : ℕ → Type 0} {a b : ℕ} (l r : ℕ) (c : Case) → OneOrTwo (UnitesLeft c) (Side G a) l → OneOrTwo (UnitesRight c) (Side G b) r → Made G a b c (bit_or l r)
-united_made l r Free s t = pair l r (just_one s) (just_one t)
-united_made l r BothLinear s t = pair l r (alone (just_one s)) (alone (just_one t))
-united_made l r PositionLinear s t = pair l r (closed s) (alone (just_one t))
-united_made l r TermLinear s t = pair l r (alone (just_one s)) (closed t)
-united_made l r Neither s t = pair l r (closed s) (closed t)
+module _ {G : ℕ → Type 0} {a b w : ℕ} where
+  arms_made : (l r : ℕ) (c : Case) → Arm (UnitesLeft c) (Side G a) w l → Arm (UnitesRight c) (Side G b) w r → Made G a b c (bit_or l r)
+  arms_made l r Free s t = pair l r (s.lone (λ y. y)) (t.lone (λ y. y))
+  arms_made l r BothLinear s t = pair l r (alone (s.lone (λ y. y))) (alone (t.lone (λ y. y)))
+  arms_made l r PositionLinear s t = pair l r s.closed (alone (t.lone (λ y. y)))
+  arms_made l r TermLinear s t = pair l r (alone (s.lone (λ y. y))) t.closed
+  arms_made l r Neither s t = pair l r s.closed t.closed
 
--- they cover together what one of them holds
-united_covers : {G : ℕ → Type 0} {a b l r w p q : ℕ} (c : Case) → OneOrTwo (UnitesLeft c) (Side G a) l → OneOrTwo (UnitesRight c) (Side G b) r → Within l w → Within r w → In p l ⊎ In p r → In q l ⊎ In q r → Covers (NewGroup G a b c) w p q
-united_covers {l = l} {r = r} c s t h k i j =
-    record { group = bit_or l r; told = made (united_made l r c s t); left = either i; right = either j; inside = union_within h k }
-  where
-    either : {p : ℕ} → In p l ⊎ In p r → In p (bit_or l r)
-    either (inl i) = in_left r i
-    either (inr i) = in_right l i
+module _ {G : ℕ → Type 0} {a b w : ℕ} (c : Case) where
+  -- the two cover together what one of them holds
+  arms_cover : {l r p q : ℕ} → Arm (UnitesLeft c) (Side G a) w l → Arm (UnitesRight c) (Side G b) w r → In p l ⊎ In p r → In q l ⊎ In q r → Covers (NewGroup G a b c) w p q
+  arms_cover {l} {r} s t i j =
+      record {
+        group = bit_or l r;
+        told = made (arms_made l r c s t);
+        left = in_sum l r i;
+        right = in_sum l r j;
+        inside = union_within s.inside t.inside;
+      }
 
--- the groups that cover positions of a side are groups of it
-lone : {G : ℕ → Type 0} {U : Type 0} {a w p q : ℕ} (k : Covers G w p q) → In p a → OneOrTwo U (Side G a) k.group
-lone k h = single (side_group k.told k.left h)
+  linked_covers : {p q : ℕ} → SideCovered (Covers G) a w → SideCovered (Covers G) b w → Linked (Covers G) a b c w p q → Covers (NewGroup G a b c) w p q
+  linked_covers {p} {q} l r (before k) = by (dec_meets k.group a) (dec_meets k.group b)
+    where
+      own_arm : {U : Type 0} {m : ℕ} → Meets k.group m → Arm U (Side G m) w k.group
+      own_arm m = let s = side_group k.told m.left m.right in record { closed = one s; lone = λ n. s; inside = k.inside }
 
-both : {G : ℕ → Type 0} {U : Type 0} {a w p q : ℕ} → U → (s : WithSide (Covers G) a w p) (t : WithSide (Covers G) a w q) → OneOrTwo U (Side G a) (bit_or s.covered.group t.covered.group)
-both y s t =
-    double y (side_group s.covered.told s.covered.left s.held) (side_group t.covered.told t.covered.left t.held)
-
-linked_covers : {G : ℕ → Type 0} {a b : ℕ} (c : Case) {w p q : ℕ} → SideCovered (Covers G) a w → SideCovered (Covers G) b w → Linked (Covers G) a b c w p q → Covers (NewGroup G a b c) w p q
-linked_covers {G} {a} {b} c {w} {p} {q} l r (before k) = by (dec_meets k.group a) (dec_meets k.group b)
-  where
-    by : Dec (Meets k.group a) → Dec (Meets k.group b) → Covers (NewGroup G a b c) w p q
-    by (yes m) n =
-        united_covers c (single (side_group k.told m.left m.right)) (lone r.covered r.held) k.inside r.covered.inside
-        (inl k.left)
-        (inl k.right)
-    by (no n) (yes m) =
-        united_covers c (lone l.covered l.held) (single (side_group k.told m.left m.right)) l.covered.inside k.inside
-        (inr k.left)
-        (inr k.right)
-    by (no n) (no m) =
-        covers_wider k.inside (covers_own (rest (record { group = k.told; left = n; right = m })) k.left k.right)
-linked_covers c l r (across s t) =
-    united_covers c (lone s.covered s.held) (lone t.covered t.held) s.covered.inside t.covered.inside (inl s.covered.right)
-    (inr t.covered.right)
-linked_covers c l r (back t s) =
-    united_covers c (lone s.covered s.held) (lone t.covered t.held) s.covered.inside t.covered.inside (inr t.covered.right)
-    (inl s.covered.right)
-linked_covers c l r (by_left y s t) =
-    united_covers c (both y s t) (lone r.covered r.held) (union_within s.covered.inside t.covered.inside) r.covered.inside
-    (inl (in_left t.covered.group s.covered.right))
-    (inl (in_right s.covered.group t.covered.right))
-linked_covers c l r (by_right y s t) =
-    united_covers c (lone l.covered l.held) (both y s t) l.covered.inside (union_within s.covered.inside t.covered.inside)
-    (inr (in_left t.covered.group s.covered.right))
-    (inr (in_right s.covered.group t.covered.right))
+      by : Dec (Meets k.group a) → Dec (Meets k.group b) → Covers (NewGroup G a b c) w p q
+      by (yes m) n = arms_cover (own_arm m) (arm r.covered r.held) (inl k.left) (inl k.right)
+      by (no n) (yes m) = arms_cover (arm l.covered l.held) (own_arm m) (inr k.left) (inr k.right)
+      by (no n) (no m) =
+          covers_wider k.inside (covers_own (rest (record { group = k.told; left = n; right = m })) k.left k.right)
+  linked_covers l r (across s t) =
+      arms_cover (arm s.covered s.held) (arm t.covered t.held) (inl s.covered.right) (inr t.covered.right)
+  linked_covers l r (back t s) =
+      arms_cover (arm s.covered s.held) (arm t.covered t.held) (inr t.covered.right) (inl s.covered.right)
+  linked_covers l r (by_left y s t) =
+      arms_cover (two_arm y s t) (arm r.covered r.held) (inl (in_left t.covered.group s.covered.right))
+      (inl (in_right s.covered.group t.covered.right))
+  linked_covers l r (by_right y s t) =
+      arms_cover (arm l.covered l.held) (two_arm y s t) (inr (in_left t.covered.group s.covered.right))
+      (inr (in_right s.covered.group t.covered.right))
 
 pub bind_cover_from : {G : ℕ → Type 0} {a b : ℕ} {c : Case} {w p q : ℕ} → BindCovers (Covers G) a b c w p q → Covers (NewGroup G a b c) w p q
 bind_cover_from (untouched s) =
@@ -288,11 +240,11 @@ bind_same s =
 
 pub apart_window : {G : ℕ → Type 0} {a b w p q : ℕ} → CoversApart (Covers G) a b w p q → Covers G (without w (bit_or a b)) p q
 apart_window {a = a} {b = b} s =
-    covers_wider (record { each = λ r i. in_lacking (s.inside.each r i) (λ j. out i (in_either a b j)) }) s.covered
+    covers_wider (record { each = λ r i. in_lacking (s.inside.each r i) (λ j. out r i (in_either a b j)) }) s.covered
   where
-    out : {r : ℕ} → In r s.part → In r a ⊎ In r b → ⊥
-    out {r} i (inl j) = s.left (record { place = r; left = i; right = j })
-    out {r} i (inr j) = s.right (record { place = r; left = i; right = j })
+    out : (r : ℕ) → In r s.part → In r a ⊎ In r b → ⊥
+    out r i (inl j) = s.left (record { place = r; left = i; right = j })
+    out r i (inr j) = s.right (record { place = r; left = i; right = j })
 
 pub window_apart : {G : ℕ → Type 0} {p q : ℕ} (a b w : ℕ) → Covers G (without w (bit_or a b)) p q → CoversApart (Covers G) a b w p q
 window_apart a b w k =

@@ -9,14 +9,15 @@ use Rattle.domain.specs.Binding.{Made, NewGroup, rest, made}
 use Rattle.domain.specs.declared.case.Case.{Case}
 use Rattle.domain.specs.declared.case.Case.TheVariants.{Free, BothLinear, PositionLinear, TermLinear, Neither}
 use Rattle.domain.proofs.Bits.{in_left, in_right, within_le, union_within, same_mask}
-use Rattle.domain.proofs.Hull.{pair_left, pair_right}
+use Rattle.domain.proofs.Hull.{Inside, closure_some, pair_left, pair_right}
 use Rattle.coverage.proofs.Searching.{dec_not, dec_both, dec_either, dec_some, dec_each, dec_in, dec_within, dec_meets}
 use Rattle.coverage.proofs.Collecting.{in_lt}
-use Rattle.coverage.proofs.BindCover.{UnionOf, closure_union}
+use Rattle.coverage.proofs.CoreLeast.{dec_holding}
+use Rattle.coverage.proofs.BindCover.{closure_covers}
 
 -- ---- pairs
 
-pub dec_paired : {A B : ℕ → Type 0} → ((g : ℕ) → Dec (A g)) → ((g : ℕ) → Dec (B g)) → (u : ℕ) → Dec (Paired A B u)
+dec_paired : {A B : ℕ → Type 0} → ((g : ℕ) → Dec (A g)) → ((g : ℕ) → Dec (B g)) → (u : ℕ) → Dec (Paired A B u)
 dec_paired {A} {B} da db u =
     map_dec
     (λ r. record { left = r.0; right = r.1.0; in_left = r.1.1.0; in_right = r.1.1.1.0; whole = r.1.1.1.1 })
@@ -32,14 +33,20 @@ dec_paired {A} {B} da db u =
 
 -- ---- unions
 
+-- some group of A lies inside u, and such groups hold all of u
+record UnionOf (A : ℕ → Type 0) (u : ℕ) : Type 0 where
+  some : Inside A u
+  each : (p : ℕ) → In p u → Covers A u p p
+
+closure_union : {A : ℕ → Type 0} {u : ℕ} → Closure A u → UnionOf A u
+closure_union k = record { some = closure_some k; each = λ p i. closure_covers k i }
+
 module _ {A : ℕ → Type 0} (dec : (g : ℕ) → Dec (A g)) where
-  pub dec_covers : (w p q : ℕ) → Dec (Covers A w p q)
+  dec_covers : (w p q : ℕ) → Dec (Covers A w p q)
   dec_covers w p q =
-      map_dec
-      (λ r. record { group = r.0; told = r.1.0; left = r.1.1.0; right = r.1.1.1.0; inside = r.1.1.1.1 })
-      (λ c. (c.group, (c.told, (c.left, (c.right, c.inside)))))
-      (dec_some (λ g. dec_both (dec g) (dec_both (dec_in p g) (dec_both (dec_in q g) (dec_within g w)))) (suc w)
-      (λ g r. omega (arith, within_le r.1.1.1)))
+      map_dec (λ r. let h = r.1.0 in record { group = r.0; told = h.told; left = h.left; right = h.right; inside = r.1.1 })
+      (λ c. (c.group, (record { told = c.told; left = c.left; right = c.right }, c.inside)))
+      (dec_some (λ g. dec_both (dec_holding dec p q g) (dec_within g w)) (suc w) (λ g r. omega (arith, within_le r.1)))
 
   dec_union : (u : ℕ) → Dec (UnionOf A u)
   dec_union u =
@@ -78,15 +85,15 @@ gather {A} {u} n (suc k) =
           }
     ]
 
-pub union_closure : {A : ℕ → Type 0} {u : ℕ} → UnionOf A u → Closure A u
+union_closure : {A : ℕ → Type 0} {u : ℕ} → UnionOf A u → Closure A u
 union_closure {A} {u} n =
     let r = gather n u in
     rw (← same_mask r.inside (record { each = λ p i. r.holds p (in_lt i) i })) r.closed
 
-pub dec_closure : {A : ℕ → Type 0} → ((g : ℕ) → Dec (A g)) → (u : ℕ) → Dec (Closure A u)
+dec_closure : {A : ℕ → Type 0} → ((g : ℕ) → Dec (A g)) → (u : ℕ) → Dec (Closure A u)
 dec_closure dec u = map_dec union_closure closure_union (dec_union dec u)
 
-pub dec_extended : {A S : ℕ → Type 0} → ((g : ℕ) → Dec (A g)) → ((g : ℕ) → Dec (S g)) → (u : ℕ) → Dec (Extended A S u)
+dec_extended : {A S : ℕ → Type 0} → ((g : ℕ) → Dec (A g)) → ((g : ℕ) → Dec (S g)) → (u : ℕ) → Dec (Extended A S u)
 dec_extended da ds u =
     map_dec (λ s. elim s [ inl a ↦ alone a | inr p ↦ joined p ]) (λ e. elim e [ alone a ↦ inl a | joined p ↦ inr p ])
     (dec_either (da u) (dec_paired da (dec_closure ds) u))

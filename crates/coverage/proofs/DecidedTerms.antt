@@ -11,8 +11,7 @@ use Rattle.domain.specs.declared.term.Term.{Term}
 use Rattle.coverage.proofs.Searching.{dec_not, dec_both, dec_either, dec_to, dec_some, dec_each, dec_in}
 use Rattle.coverage.proofs.Collecting.{in_lt, power_lt}
 use Rattle.coverage.proofs.DecidedGroups.{dec_shared}
-use Rattle.coverage.proofs.ExistsCore.{dec_holding}
-use Rattle.coverage.proofs.CoreLeast.{dec_group}
+use Rattle.coverage.proofs.CoreLeast.{dec_holding, dec_group}
 
 -- ---- positions, where the groups are all below k
 

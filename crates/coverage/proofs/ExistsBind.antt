@@ -16,28 +16,28 @@ use Rattle.coverage.proofs.DecidedGroups.{dec_new_group}
 use Rattle.coverage.proofs.DecidedTerms.{dec_ground, some_case, dec_stays_free, dec_stays_linear}
 
 module _ {d : Told} (l : Lawful d) (x : ℕ) (t : Term) (c : Case) (f : Fits d x t c) where
-  abbrev New : ℕ → Type 0
-  New = NewGroup (Group d) (2 ^ x) t.held c
+  -- the groups of the result, and its linear positions
+  abbrev After : ℕ → Type 0
+  After = NewGroup (Group d) (2 ^ x) t.held c
 
-  -- the positions that are linear in the result
-  abbrev Linear : ℕ → Type 0
-  Linear p = StaysLinear d x t p ⊎ (StaysFree d x t p ⊎ IsGround d.n New p)
+  abbrev LinearAfter : ℕ → Type 0
+  LinearAfter p = StaysLinear d x t p ⊎ (StaysFree d x t p ⊎ IsGround d.n After p)
 
-  linear_lt : (p : ℕ) → Linear p → p < d.marks.linear + (d.marks.free + d.n)
+  linear_lt : (p : ℕ) → LinearAfter p → p < d.marks.linear + (d.marks.free + d.n)
   linear_lt p (inl s) = omega (arith, in_lt s.was)
   linear_lt p (inr (inl s)) = omega (arith, in_lt s.was)
   linear_lt p (inr (inr u)) = omega (arith, u.position)
 
-  dec_new : (g : ℕ) → Dec (New g)
-  dec_new g = dec_new_group (dec_group d) (2 ^ x) t.held c g
+  dec_after : (g : ℕ) → Dec (After g)
+  dec_after g = dec_new_group (dec_group d) (2 ^ x) t.held c g
 
-  dec_linear_after : (p : ℕ) → Dec (Linear p)
+  dec_linear_after : (p : ℕ) → Dec (LinearAfter p)
   dec_linear_after p =
       dec_either (dec_stays_linear l x t p)
       (dec_either (dec_stays_free l x t p)
-      (dec_ground dec_new (2 ^ d.n) (λ g k. (new_range d l.in_range (2 ^ x) t.held c k).1) d.n p))
+      (dec_ground dec_after (2 ^ d.n) (λ g k. (new_range d l.in_range (2 ^ x) t.held c k).1) d.n p))
 
-  bind_by_lem : Tested New → Positions (StaysFree d x t) → Positions Linear → (e : Told) × Bound d x t e
+  bind_by_lem : Tested After → Positions (StaysFree d x t) → Positions LinearAfter → (e : Told) × Bound d x t e
   bind_by_lem groups free linear = (
     e,
     record {
@@ -63,12 +63,12 @@ module _ {d : Told} (l : Lawful d) (x : ℕ) (t : Term) (c : Case) (f : Fits d x
       e : Told
       e = record { n = d.n; groups = groups.test; marks = record { free = free.mask; linear = linear.mask } }
 
-      same : SameCover (Group e) New
+      same : SameCover (Group e) After
       same = same_groups groups.only groups.all
 
   bind_in_case : (e : Told) × Bound d x t e
   bind_in_case =
-      bind_by_lem (tested dec_new) (positions (dec_stays_free l x t) d.marks.free (λ p s. in_lt s.was))
+      bind_by_lem (tested dec_after) (positions (dec_stays_free l x t) d.marks.free (λ p s. in_lt s.was))
       (positions dec_linear_after (d.marks.linear + (d.marks.free + d.n)) linear_lt)
 
 pub bind_made : (d : Told) (x : ℕ) (t : Term) → Lawful d → (e : Told) × Bound d x t e

@@ -4,23 +4,18 @@ use native.Mathlib.Decide.{ℕ_discrete, map_dec}
 use Rattle.domain.specs.Told.{Told, Group, Lawful}
 use Rattle.domain.specs.Coverage.{Core, CoreList}
 use Rattle.domain.proofs.Bits.{within_le}
-use Rattle.coverage.specs.Walks.{Holding, CoveredInside, OpenPair}
+use Rattle.coverage.specs.Walks.{CoveredInside, OpenPair}
 use Rattle.coverage.proofs.Searching.{dec_not, dec_both, dec_some, dec_in, dec_within}
 use Rattle.coverage.proofs.Collecting.{in_lt, numbers}
 use Rattle.coverage.proofs.Pairs.{open_core, core_open}
-use Rattle.coverage.proofs.CoreLeast.{dec_group}
+use Rattle.coverage.proofs.CoreLeast.{dec_holding, dec_group}
 
 module _ {G : ℕ → Type 0} (dec : (g : ℕ) → Dec (G g)) where
-  pub dec_holding : (p q g : ℕ) → Dec (Holding G p q g)
-  dec_holding p q g =
-      map_dec (λ r. record { told = r.0; left = r.1.0; right = r.1.1 }) (λ h. (h.told, (h.left, h.right)))
-      (dec_both (dec g) (dec_both (dec_in p g) (dec_in q g)))
-
   dec_inside : (g p q : ℕ) → Dec (CoveredInside G g p q)
   dec_inside g p q =
       map_dec (λ r. record { group = r.0; holding = r.1.0; inside = r.1.1.0; smaller = r.1.1.1 })
       (λ i. (i.group, (i.holding, (i.inside, i.smaller))))
-      (dec_some (λ h. dec_both (dec_holding p q h) (dec_both (dec_within h g) (dec_not (ℕ_discrete h g)))) (suc g)
+      (dec_some (λ h. dec_both (dec_holding dec p q h) (dec_both (dec_within h g) (dec_not (ℕ_discrete h g)))) (suc g)
       (λ h r. omega (arith, within_le r.1.0)))
 
   dec_open : (g p q : ℕ) → Dec (OpenPair G g p q)

@@ -10,7 +10,7 @@ use Rattle.domain.specs.Joining.{Joined}
 use Rattle.domain.specs.Forgetting.{Stripped, Renewed, Left, Forgotten}
 use Rattle.domain.specs.declared.listing.Listing.{Listing}
 use Rattle.domain.proofs.Bits.{in_all, all_in, in_left, in_right, in_either, in_both, in_first, in_second, in_lacking, lacking_in, within_le, same_mask}
-use Rattle.coverage.proofs.Searching.{dec_both, dec_either, dec_some, dec_in}
+use Rattle.coverage.proofs.Searching.{dec_both, dec_either, dec_some, dec_in, in_sum}
 use Rattle.coverage.proofs.Collecting.{Tested, tested, in_lt}
 use Rattle.coverage.proofs.Counting.{listed_cases, empty_listed}
 use Rattle.coverage.proofs.CoreLeast.{dec_group}
@@ -102,10 +102,6 @@ dec_renewed m g =
     map_dec (λ r. record { place = r.0; forgotten = r.1.0; only = r.1.1 })
     (λ s. (s.place, (s.forgotten, s.only)))
     (dec_some (λ p. dec_both (dec_in p m) (ℕ_discrete g (2 ^ p))) m (λ p r. in_lt r.0))
-
-in_sum : {p : ℕ} (a b : ℕ) → In p a ⊎ In p b → In p (bit_or a b)
-in_sum a b (inl i) = in_left b i
-in_sum a b (inr i) = in_right a i
 
 pub forget_made : (d : Told) (m : ℕ) → (e : Told) × Forgotten d m e
 forget_made d m =

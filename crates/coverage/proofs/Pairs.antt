@@ -56,17 +56,6 @@ pub record Closed (G : ℕ → Type 0) (g p : ℕ) : Type 0 where
 pub record ClosedAt (G : ℕ → Type 0) (g p q : ℕ) : Type 0 where
   pub none : (b : ℕ) → b < q → p ≤ b → OpenPair G g p b → ⊥
 
-pub closed_at_start : {G : ℕ → Type 0} {g p : ℕ} → ClosedAt G g p p
-closed_at_start = record { none = λ b h k o. omega arith }
-
-pub closed_at_more : {G : ℕ → Type 0} {g p q : ℕ} → (OpenPair G g p q → ⊥) → ClosedAt G g p q → ClosedAt G g p (q + 1)
-closed_at_more {G} {g} {p} {q} n k =
-    record {
-      none =
-          λ b h m o.
-          elim (ℕ_discrete b q) [ yes e ↦ n (subst (OpenPair G g p) e o) | no ne ↦ k.none b (omega arith) m o ];
-    }
-
 pub closed_more : {G : ℕ → Type 0} {g p q : ℕ} → g < 2 ^ 16 → 16 ≤ q → ClosedAt G g p q → Closed G g p → Closed G g (p + 1)
 closed_more {G} {g} {p} {q} small past k all =
     record {

@@ -2,9 +2,9 @@
 use Rattle.std.proofs.Common.{ℕ, zero, suc, ◌<◌, true, false, ◌⊎◌, Decides, refl, subst, inl, inr, arith}
 use Rattle.std.proofs.lemmas.Bool.{false≢true}
 use native.Mathlib.Decide.{dec_lt, ℕ_discrete}
-use lib.Bits.{bit_and}
+use lib.Bits.{bit_and, bit_or}
 use Rattle.domain.specs.Masks.{In, Within, Meets}
-use Rattle.domain.proofs.Bits.{in_or_not, within_and, and_within, meets_and, and_meets}
+use Rattle.domain.proofs.Bits.{in_or_not, in_left, in_right, within_and, and_within, meets_and, and_meets}
 
 -- ---- decisions
 
@@ -51,6 +51,10 @@ dec_within a b =
 pub dec_meets : (a b : ℕ) → Dec (Meets a b)
 dec_meets a b =
     elim (dec_lt 0 (bit_and a b)) [ yes h ↦ yes (and_meets a b h) | no n ↦ no (λ m. n (meets_and m)) ]
+
+pub in_sum : {p : ℕ} (a b : ℕ) → In p a ⊎ In p b → In p (bit_or a b)
+in_sum a b (inl i) = in_left b i
+in_sum a b (inr i) = in_right a i
 
 -- ---- the least number of which a test holds
 

@@ -26,7 +26,8 @@ AlikeHaveOneCore = (d e : Told) → Alike d e → (g : ℕ) → Core (Group d) g
 -- descriptions with the same core groups, positions and marks are alike
 abbrev pub OneCoreIsAlike : Type 0
 OneCoreIsAlike =
-    (d e : Told) → d.n ≡ e.n → d.marks ≡ e.marks → ((g : ℕ) → Core (Group d) g ↔ Core (Group e) g) → Alike d e
+    (d e : Told) → d.n ≡ e.n → d.marks ≡ e.marks
+    → ((g : ℕ) → Core (Group d) g ↔ Core (Group e) g) → Alike d e
 
 -- whether the core has at most k groups is the same for alike descriptions
 abbrev pub AlikeFitAlike : Type 0

@@ -22,4 +22,5 @@ pub data ForgetCovers (C : ℕ → ℕ → ℕ → Type 0) (m w p q : ℕ) : Typ
 -- exactly those pairs are covered after a forget
 abbrev pub ForgetCoverage : Type 0
 ForgetCoverage =
-    (d e : Told) (m w p q : ℕ) → Forgotten d m e → Covers (Group e) w p q ↔ ForgetCovers (Covers (Group d)) m w p q
+    (d e : Told) (m w p q : ℕ) → Forgotten d m e
+    → Covers (Group e) w p q ↔ ForgetCovers (Covers (Group d)) m w p q

@@ -25,7 +25,8 @@ impl Groups<'_> {
     // The same, where there is room. The groups are met in ascending order, so each goes behind the others.
     fn fill_core(&self, list: &mut [u16]) -> usize
         requires few { self.now.positions ≤ MOST_POSITIONS }
-        requires fits { CoreFits (TableGroup self.now.positions self.now.table.now) (length list.old) }
+        requires fits { CoreFits (TableGroup self.now.positions self.now.table.now)
+            (length list.old) }
         ensures { FillsCore (TableGroup self.now.positions self.now.table.now)
             list.old list.new result }
     {

@@ -5,8 +5,7 @@
 use domain::limits::TABLE_BYTES;
 use domain::refusal::Refusal;
 use domain::term::Term;
-use keeper::KeeperFault;
-use keeper::Keeper;
+use keeper::{Keeper, KeeperFault};
 use list_keeper::ListKeeper;
 use std::io;
 use table_keeper::TableKeeper;

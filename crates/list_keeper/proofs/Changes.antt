@@ -18,7 +18,7 @@ use Rattle.domain.specs.declared.refusal.Refusal.TheVariants.{Order}
 use Rattle.domain.proofs.Bits.{in_single, single_in}
 use Rattle.domain.proofs.Tables.{room_for}
 use Rattle.domain.proofs.Laws.{group_of, of_group}
-use Rattle.keeper.specs.Calls.{Changes, ChangesBy, Exactly, Opens, opened}
+use Rattle.keeper.specs.Calls.{Changes, ChangesBy, Exactly, Opens}
 use Rattle.keeper.specs.declared.fault.KeeperFault.{KeeperFault}
 use Rattle.list_keeper.proofs.Keeping.{own_range}
 use Rattle.list_keeper.proofs.Listing.{test_listed, listed_test}

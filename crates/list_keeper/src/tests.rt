@@ -4,9 +4,7 @@ use domain::limits::TABLE_BYTES;
 use domain::marks::Marks;
 use domain::refusal::Refusal;
 use domain::term::Term;
-use keeper::KeeperFault;
-use keeper::Keeper;
-use keeper::WrittenOut;
+use keeper::{Keeper, KeeperFault, WrittenOut};
 use std::test::Fail;
 
 fn refused<T>(refusal: Refusal) -> Result<T, KeeperFault> {

@@ -4,9 +4,7 @@ ghost use Rattle.worked.specs.Rows.{AllWorked};
 ghost use Rattle.worked.specs.Table.{table};
 ghost use Rattle.worked.specs.Writing.{WritesRows};
 
-use keeper::KeeperFault;
-use keeper::Keeper;
-use keeper::WrittenOut;
+use keeper::{Keeper, KeeperFault, WrittenOut};
 
 /// Writes the core at the start of a list. Every row of the table is right: the rules reckon the groups, the
 /// core and the marks that it writes out, and every keeper answers its calls as it says. So a keeper that was

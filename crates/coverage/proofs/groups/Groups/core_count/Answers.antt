@@ -1,6 +1,7 @@
-use Rattle.std.proofs.Common.{arith}
+use Rattle.std.proofs.Common.{◌<◌, arith}
 use Rattle.std.proofs.lemmas.Bool.Decides.{not_from_Decides}
-use Rattle.coverage.proofs.Counting.{count_start, count_skip, count_one, count_end, core_range, core_below}
+use Rattle.coverage.proofs.Counting.{core_range, core_below}
+use Rattle.coverage.proofs.ListedCores.{count_start, count_skip, count_one, count_end}
 use Rattle.domain.proofs.Refusing.{counted_few}
 use Rattle.coverage.proofs.groups.Groups.core_count.Goals as goal
 use Rattle.coverage.proofs.groups.Groups.core_count.Goals.{then-is_core, else-is_core}
@@ -11,10 +12,11 @@ loop-g-init c =
 
 pub loop-g-preserved : goal.loop-g-preserved
 loop-g-preserved c =
+    let low : 0 < c.loop-g.g = omega (arith, c.loop-g.invariant.0) in
     elim c.if-is_core.branch [
       | then-is_core w ↦ (
         omega (arith, w.count-is, c.loop-g.invariant.0),
-        rw w.count-is (count_one (c.is_core.ensures.0 w.if-is_core.true) c.loop-g.invariant.1),
+        rw w.count-is (count_one low (c.is_core.ensures.0 w.if-is_core.true) c.loop-g.invariant.1),
       )
       | else-is_core w ↦ (
         omega (arith, w.count-is, c.loop-g.invariant.0),
