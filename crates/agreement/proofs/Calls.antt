@@ -1,7 +1,7 @@
 -- One call, of two keepers that tell alike descriptions.
 use Rattle.std.proofs.Common.{◌≡◌, ℕ, ◌≤◌, Bool, not, eqb, List, [], ◌∷◌, length, take, drop, Ok, Err, Option, Result, sym, refl, ap, ◌∙◌, subst, inl, inr, arith, take_at}
 use Rattle.std.proofs.lemmas.Bool.{both_ways}
-use Rattle.coverage.proofs.Changes.{change_alike}
+use Rattle.coverage.proofs.ChangeLaws.{change_alike}
 use Rattle.coverage.proofs.CoreLeast.{core_kept, core_fits}
 use Rattle.coverage.proofs.Cover.{alike_turned, same_turned}
 use Rattle.coverage.proofs.Places.{share_kept, ground_kept}
@@ -10,15 +10,15 @@ use Rattle.domain.specs.Coverage.{Alike, CoreFits, CoreList}
 use Rattle.domain.specs.Masks.{In}
 use Rattle.domain.specs.Refusals.{first_of}
 use Rattle.domain.specs.Requests.{ask_tests, pair_tests}
-use Rattle.domain.specs.Told.{Told, Group, IsFree, IsLinear}
+use Rattle.domain.specs.Told.{Told, IsFree, IsLinear}
 use Rattle.domain.specs.declared.marks.Marks.{Marks}
 use Rattle.domain.specs.declared.refusal.Refusal.{Refusal}
 use Rattle.domain.specs.declared.refusal.Refusal.TheVariants.{Order}
 use Rattle.keeper.specs.Calls.{Changes, Answers, Writes, opened}
 use Rattle.keeper.specs.Questions.{Asks}
 use Rattle.keeper.specs.declared.fault.KeeperFault.{KeeperFault}
-use Rattle.keeper.specs.declared.question.Question.{Question}
-use Rattle.keeper.specs.declared.question.Question.TheVariants.{Ground, Free, Linear, Pair}
+use Rattle.keeper.specs.declared.questions.Question.{Question}
+use Rattle.keeper.specs.declared.questions.Question.TheVariants.{Ground, Free, Linear, Pair}
 use Rattle.keeper.specs.declared.write_out.WrittenOut.{WrittenOut}
 use Rattle.agreement.proofs.Agreeing.{changes_same, answers_agree, alike_ends}
 use Rattle.agreement.proofs.Cores.{one_core}

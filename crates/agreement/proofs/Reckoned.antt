@@ -1,7 +1,7 @@
 -- What a keeper tells is alike with its reckoned description.
 use Rattle.std.proofs.Common.{ℕ, not, eqb, List, [], ◌∷◌, Some, None, Ok, Err, Option, Result, sym, refl, subst}
 use Rattle.std.proofs.lemmas.Option.{none-some}
-use Rattle.coverage.proofs.Changes.{change_alike}
+use Rattle.coverage.proofs.ChangeLaws.{change_alike}
 use Rattle.coverage.proofs.CoreLeast.{core_fits}
 use Rattle.coverage.proofs.Cover.{alike_turned, alike_trans}
 use Rattle.coverage.proofs.Places.{new_alike}

@@ -36,7 +36,7 @@ opened_some t h = ap not (ne_eqb t.n 0 (λ e. omega arith))
 
 writes_core : (capacity room : ℕ) (t : Told) (gs : List ℕ) → 0 < t.n → CoreList (Group t) gs → length gs ≤ room
     → Session capacity (writing room ∷ []) t (wrote_of t gs ∷ []) t
-unfolding (wrote_of, writing)
+unfolding wrote_of writing
 writes_core k room t gs some c fits =
     calls
     (record {
@@ -54,7 +54,7 @@ writes_core k room t gs some c fits =
     list = replicate room 0
 
 pub not_told_apart : (capacity : ℕ) (s t : Told) → AlikeAreNotToldApart capacity s t
-unfolding (wrote_of, writing)
+unfolding wrote_of writing
 not_told_apart k s t n cs ds d e gs rd gt re = (forth, back)
   where
     ds' : Alike d s

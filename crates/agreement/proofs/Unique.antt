@@ -1,10 +1,9 @@
 -- There is a reckoned description, and only one.
 use Rattle.std.proofs.Common.{◌≡◌, ℕ, ◌⊎◌, List, [], ◌∷◌, Some, None, Option, sym, refl, ◌∙◌, subst, inl, inr}
 use Rattle.std.proofs.lemmas.Option.{none-some}
-use Rattle.coverage.proofs.Changes.{change_made, one_made}
+use Rattle.coverage.proofs.ChangeLaws.{change_made, one_made, one_new}
 use Rattle.coverage.proofs.ExistsFit.{fits_or_not}
 use Rattle.coverage.proofs.ExistsSteps.{new_made}
-use Rattle.coverage.proofs.OneResult.{one_new}
 use Rattle.domain.proofs.Opening.{new_lawful}
 use Rattle.domain.specs.Changes.{Makes}
 use Rattle.domain.specs.Coverage.{CoreFits}
@@ -47,7 +46,7 @@ reckons_some k s (Ask q) d law = (d, refl)
 reckons_some k s WriteOut d law = (d, refl)
 
 reckons_one : (k s : ℕ) (c : KeeperCall (List ℕ)) (d e e' : Told) → ReckonsBy k s c d e → ReckonsBy k s c d e' → e ≡ e'
-reckons_one k s (Change c) d e e' h g = effect_one k _ _ d e e' (λ u v. one_made c) h g
+reckons_one k s (Change c) d e e' h g = effect_one k _ _ d e e' (λ u v. one_made c d) h g
 reckons_one k s (Ask q) d e e' h g = h ∙ sym g
 reckons_one k s WriteOut d e e' h g = h ∙ sym g
 

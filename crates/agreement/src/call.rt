@@ -1,7 +1,6 @@
 //! The calls of an opened keeper and its answers, as values.
 use domain::change::Change;
-use keeper::question::Question;
-use keeper::write_out::WrittenOut;
+use keeper::{Question, WrittenOut};
 
 /// A call of an opened keeper, with its arguments; the memory that it works in is lent when it is given.
 /// `G` carries the groups of a join.

@@ -5,8 +5,7 @@ ghost use Rattle.agreement.specs.Laws.{OneReckoned};
 ghost use Rattle.agreement.specs.Sessions.{Called};
 
 use crate::call::{KeeperAnswer, KeeperCall};
-use keeper::fault::KeeperFault;
-use keeper::keeper::Keeper;
+use keeper::{Keeper, KeeperFault};
 
 /// Gives a keeper one call. A write-out puts the core into `list`; what `scratch` holds afterwards is free.
 pub fn give<K: Keeper>(
@@ -15,10 +14,9 @@ pub fn give<K: Keeper>(
     scratch: &mut [u8],
     list: &mut [u16],
 ) -> Result<KeeperAnswer, KeeperFault>
-    ensures called {
-        Called (K.Keeper.capacity keeper.old) (call_of (length scratch.old) (length list.old) call.entry)
-        (K.Keeper.told keeper.old) (answer_of result list.new) (K.Keeper.told keeper.new)
-    }
+    ensures called { Called (K.Keeper.capacity keeper.old)
+        (call_of (length scratch.old) (length list.old) call.entry)
+        (K.Keeper.told keeper.old) (answer_of result list.new) (K.Keeper.told keeper.new) }
     ensures rest { StaysBut result list.old list.new }
     ensures same_capacity { K.Keeper.capacity keeper.new ≡ K.Keeper.capacity keeper.old }
 {
@@ -43,16 +41,13 @@ pub fn give_all<K: Keeper>(
     answers: &mut [Result<KeeperAnswer, KeeperFault>],
 ) -> usize
     ensures number { result ≡ min (length calls.now) (length answers.old) }
-    ensures session {
-        Held (K.Keeper.capacity keeper.old)
+    ensures session { Held (K.Keeper.capacity keeper.old)
         (calls_of (length scratch.old) (length list.old) (take result calls.now)) result
-        (K.Keeper.told keeper.old) (K.Keeper.told keeper.new) list.old list.new answers.old answers.new
-    }
-    ensures under_the_laws {
-        UnderTheLaws (K.Keeper.capacity keeper.old)
+        (K.Keeper.told keeper.old) (K.Keeper.told keeper.new) list.old list.new answers.old
+        answers.new }
+    ensures under_the_laws { UnderTheLaws (K.Keeper.capacity keeper.old)
         (calls_of (length scratch.old) (length list.old) (take result calls.now))
-        (K.Keeper.told keeper.old) (K.Keeper.told keeper.new)
-    }
+        (K.Keeper.told keeper.old) (K.Keeper.told keeper.new) }
     ensures same_capacity { K.Keeper.capacity keeper.new ≡ K.Keeper.capacity keeper.old }
 {
     let number = calls.len().min(answers.len());

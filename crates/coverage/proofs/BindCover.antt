@@ -1,430 +1,258 @@
--- The closed form of what the groups of a bind cover.
-use Rattle.std.proofs.Common.{◌≡◌, ℕ, ◌^◌, ◌⊎◌, refl, subst, inl, inr}
+-- The closed form of what the groups of a bind cover. What holds of a side is said once, over its mask a and the
+-- other side's, b.
+use Rattle.std.proofs.Common.{ℕ, ◌⊎◌, refl, inl, inr}
 use lib.Bits.{bit_or}
-use Rattle.domain.specs.Masks.{In, Within}
-use Rattle.domain.specs.Groups.{XGroup, TGroup, Shared, Paired, Closure, one, more, Extended, alone, joined}
-use Rattle.domain.specs.Told.{Told, Group}
+use Rattle.domain.specs.Masks.{In, Within, Meets, without}
+use Rattle.domain.specs.Groups.{Side, Shared, Paired, Closure, one, more, Extended, alone, joined}
 use Rattle.domain.specs.Coverage.{Covers, SameCover}
-use Rattle.domain.specs.Binding.{Made, NewGroup, rest, made, Bound}
-use Rattle.domain.specs.declared.term.Term.{Term}
+use Rattle.domain.specs.Binding.{Made, NewGroup, rest, made}
 use Rattle.domain.specs.declared.case.Case.{Case}
 use Rattle.domain.specs.declared.case.Case.TheVariants.{Free, BothLinear, PositionLinear, TermLinear, Neither}
-use Rattle.coverage.specs.Windows.{minus}
-use Rattle.coverage.specs.BindLaws.{Apart, WithTerm, TermCovered, UnitesX, UnitesT, Linked, before, across, back, by_x, by_t, BindCovers, untouched, met}
-use Rattle.domain.proofs.Bits.{in_lacking, lacking_in, in_single, single_in, in_either, in_left, in_right, union_within, within_left, within_right, within_self, within_trans}
-use Rattle.coverage.proofs.Decided.{dec_in, dec_meets}
-use Rattle.coverage.proofs.Cover.{covers_own, covers_wider, covers_more}
-
--- ---- wider windows
-
-pub term_wider : {G : ℕ → Type 0} {v w u q : ℕ} → Within w u → WithTerm (Covers G) v w q → WithTerm (Covers G) v u q
-term_wider h t = record { place = t.place; held = t.held; covered = covers_wider h t.covered }
-
-pub covered_wider : {G : ℕ → Type 0} {v w u : ℕ} → Within w u → TermCovered (Covers G) v w → TermCovered (Covers G) v u
-covered_wider h t = record { place = t.place; held = t.held; covered = covers_wider h t.covered }
-
-pub linked_wider : {G : ℕ → Type 0} {x v : ℕ} {c : Case} {w u p q : ℕ} → Within w u → Linked (Covers G) x v c w p q → Linked (Covers G) x v c u p q
-linked_wider h (before k) = before (covers_wider h k)
-linked_wider h (across k t) = across (covers_wider h k) (term_wider h t)
-linked_wider h (back t k) = back (term_wider h t) (covers_wider h k)
-linked_wider h (by_x a k l) = by_x a (covers_wider h k) (covers_wider h l)
-linked_wider h (by_t a s t) = by_t a (term_wider h s) (term_wider h t)
-
--- ---- the two sides of a new group
-
--- u is a union of groups of A
-pub record UnionOf (A : ℕ → Type 0) (u : ℕ) : Type 0 where
-  pub some : ℕ
-  pub some_told : A some
-  pub some_inside : Within some u
-  pub each : (p : ℕ) → In p u → Covers A u p p
-
-one_union : {A : ℕ → Type 0} {u : ℕ} → A u → UnionOf A u
-one_union {u = u} a =
-    record { some = u; some_told = a; some_inside = within_self u; each = λ p i. covers_own a i i }
-
-pub two_union : {A : ℕ → Type 0} (g h : ℕ) → UnionOf A g → UnionOf A h → UnionOf A (bit_or g h)
-two_union g h a b =
-    record {
-      some = a.some;
-      some_told = a.some_told;
-      some_inside = within_trans a.some_inside (within_left g h);
-      each =
-          λ p i.
-          elim (in_either g h i) [
-            | inl j ↦ covers_wider (within_left g h) (a.each p j)
-            | inr j ↦ covers_wider (within_right g h) (b.each p j)
-          ];
-    }
-
-pub closure_union : {A : ℕ → Type 0} {u : ℕ} → Closure A u → UnionOf A u
-closure_union (one a) = one_union a
-closure_union (more {g = g} {h = h} a k) = two_union g h (one_union a) (closure_union k)
-
-union_more : {A B : ℕ → Type 0} {u : ℕ} → ((g : ℕ) → A g → B g) → UnionOf A u → UnionOf B u
-union_more f a =
-    record {
-      some = a.some;
-      some_told = f a.some a.some_told;
-      some_inside = a.some_inside;
-      each =
-          λ p i.
-          let k = a.each p i in
-          record { group = k.group; told = f k.group k.told; left = k.left; right = k.right; inside = k.inside };
-    }
-
-shared_x : {G : ℕ → Type 0} {x v : ℕ} (g : ℕ) → Shared G x v g → XGroup G x g
-shared_x g s = record { group = s.group; holds = s.holds }
-
-shared_t : {G : ℕ → Type 0} {x v : ℕ} (g : ℕ) → Shared G x v g → TGroup G v g
-shared_t g s = record { group = s.group; meets = s.meets }
-
--- a position in a union of x-groups, and in one of t-groups
-x_each : {G : ℕ → Type 0} {x u p : ℕ} → UnionOf (XGroup G x) u → In p u → Covers G u x p
-x_each {p = p} a i =
-    let k = a.each p i in
-    record { group = k.group; told = k.told.group; left = k.told.holds; right = k.right; inside = k.inside }
-
-x_some : {G : ℕ → Type 0} {x u : ℕ} → UnionOf (XGroup G x) u → Covers G u x x
-x_some a =
-    record {
-      group = a.some;
-      told = a.some_told.group;
-      left = a.some_told.holds;
-      right = a.some_told.holds;
-      inside = a.some_inside;
-    }
-
-t_each : {G : ℕ → Type 0} {v u p : ℕ} → UnionOf (TGroup G v) u → In p u → WithTerm (Covers G) v u p
-t_each {p = p} a i =
-    let k = a.each p i in
-    let m = k.told.meets in
-    record {
-      place = m.place;
-      held = m.right;
-      covered = record { group = k.group; told = k.told.group; left = m.left; right = k.right; inside = k.inside };
-    }
-
-t_some : {G : ℕ → Type 0} {v u : ℕ} → UnionOf (TGroup G v) u → TermCovered (Covers G) v u
-t_some a =
-    let m = a.some_told.meets in
-    record {
-      place = m.place;
-      held = m.right;
-      covered = record { group = a.some; told = a.some_told.group; left = m.left; right = m.left; inside = a.some_inside };
-    }
-
--- a side is a union of groups of A, and two positions of it are linked
-record Side (A G : ℕ → Type 0) (x v : ℕ) (c : Case) (u : ℕ) : Type 0 where
-  union : UnionOf A u
-  pair : (p q : ℕ) → In p u → In q u → Linked (Covers G) x v c u p q
-
-abbrev XSide : (ℕ → Type 0) → ℕ → ℕ → Case → ℕ → Type 0
-XSide G x v c u = Side (XGroup G x) G x v c u
-
-abbrev TSide : (ℕ → Type 0) → ℕ → ℕ → Case → ℕ → Type 0
-TSide G x v c u = Side (TGroup G v) G x v c u
-
-x_alone : {G : ℕ → Type 0} {x v : ℕ} {c : Case} {u : ℕ} → XGroup G x u → XSide G x v c u
-x_alone a = record { union = one_union a; pair = λ p q i j. before (covers_own a.group i j) }
-
-t_alone : {G : ℕ → Type 0} {x v : ℕ} {c : Case} {u : ℕ} → TGroup G v u → TSide G x v c u
-t_alone b = record { union = one_union b; pair = λ p q i j. before (covers_own b.group i j) }
-
-x_closed : {G : ℕ → Type 0} {x v : ℕ} {c : Case} {u : ℕ} → UnitesX c → Closure (XGroup G x) u → XSide G x v c u
-x_closed y k =
-    let n = closure_union k in
-    record { union = n; pair = λ p q i j. by_x y (x_each n i) (x_each n j) }
-
-t_closed : {G : ℕ → Type 0} {x v : ℕ} {c : Case} {u : ℕ} → UnitesT c → Closure (TGroup G v) u → TSide G x v c u
-t_closed y k =
-    let n = closure_union k in
-    record { union = n; pair = λ p q i j. by_t y (t_each n i) (t_each n j) }
-
--- a group with shared groups: the shared ones serve as x-groups and as t-groups
-x_joined : {G : ℕ → Type 0} {x v : ℕ} {c : Case} (a s : ℕ) → XGroup G x a → Closure (Shared G x v) s → XSide G x v c (bit_or a s)
-x_joined {G} {x} {v} {c} a s xa cs =
-    record { union = two_union a s (one_union xa) sx; pair = λ p q i j. by (in_either a s i) (in_either a s j) }
-  where
-    sx : UnionOf (XGroup G x) s
-    sx = union_more shared_x (closure_union cs)
-
-    st : UnionOf (TGroup G v) s
-    st = union_more shared_t (closure_union cs)
-
-    ax : {p : ℕ} → In p a → Covers G (bit_or a s) x p
-    ax i = covers_wider (within_left a s) (x_each (one_union xa) i)
-
-    sxp : {p : ℕ} → In p s → Covers G (bit_or a s) x p
-    sxp i = covers_wider (within_right a s) (x_each sx i)
-
-    stp : {p : ℕ} → In p s → WithTerm (Covers G) v (bit_or a s) p
-    stp i = term_wider (within_right a s) (t_each st i)
-
-    by : {p q : ℕ} → In p a ⊎ In p s → In q a ⊎ In q s → Linked (Covers G) x v c (bit_or a s) p q
-    by (inl i) (inl j) = before (covers_wider (within_left a s) (covers_own xa.group i j))
-    by (inl i) (inr j) = across (ax i) (stp j)
-    by (inr i) (inl j) = back (stp i) (ax j)
-    by (inr i) (inr j) = across (sxp i) (stp j)
-
-t_joined : {G : ℕ → Type 0} {x v : ℕ} {c : Case} (b s : ℕ) → TGroup G v b → Closure (Shared G x v) s → TSide G x v c (bit_or b s)
-t_joined {G} {x} {v} {c} b s tb cs =
-    record { union = two_union b s (one_union tb) st; pair = λ p q i j. by (in_either b s i) (in_either b s j) }
-  where
-    sx : UnionOf (XGroup G x) s
-    sx = union_more shared_x (closure_union cs)
-
-    st : UnionOf (TGroup G v) s
-    st = union_more shared_t (closure_union cs)
-
-    bt : {p : ℕ} → In p b → WithTerm (Covers G) v (bit_or b s) p
-    bt i = term_wider (within_left b s) (t_each (one_union tb) i)
-
-    sxp : {p : ℕ} → In p s → Covers G (bit_or b s) x p
-    sxp i = covers_wider (within_right b s) (x_each sx i)
-
-    stp : {p : ℕ} → In p s → WithTerm (Covers G) v (bit_or b s) p
-    stp i = term_wider (within_right b s) (t_each st i)
-
-    by : {p q : ℕ} → In p b ⊎ In p s → In q b ⊎ In q s → Linked (Covers G) x v c (bit_or b s) p q
-    by (inl i) (inl j) = before (covers_wider (within_left b s) (covers_own tb.group i j))
-    by (inl i) (inr j) = back (bt i) (sxp j)
-    by (inr i) (inl j) = across (sxp i) (bt j)
-    by (inr i) (inr j) = across (sxp i) (stp j)
-
-x_extended : {G : ℕ → Type 0} {x v : ℕ} {c : Case} {u : ℕ} → Extended (XGroup G x) (Shared G x v) u → XSide G x v c u
-x_extended (alone a) = x_alone a
-x_extended {G} {x} {v} {c} (joined k) =
-    subst (XSide G x v c) k.whole (x_joined k.left k.right k.in_left k.in_right)
-
-t_extended : {G : ℕ → Type 0} {x v : ℕ} {c : Case} {u : ℕ} → Extended (TGroup G v) (Shared G x v) u → TSide G x v c u
-t_extended (alone b) = t_alone b
-t_extended {G} {x} {v} {c} (joined k) =
-    subst (TSide G x v c) k.whole (t_joined k.left k.right k.in_left k.in_right)
-
--- each group that a case makes is the union of two such sides
-record Sides (G : ℕ → Type 0) (x v : ℕ) (c : Case) (u : ℕ) : Type 0 where
-  left : ℕ
-  right : ℕ
-  x_side : XSide G x v c left
-  t_side : TSide G x v c right
-  whole : bit_or left right ≡ u
-
-sides : {G : ℕ → Type 0} {x v u : ℕ} {c : Case} {A B : ℕ → Type 0} → ((l : ℕ) → A l → XSide G x v c l) → ((r : ℕ) → B r → TSide G x v c r) → Paired A B u → Sides G x v c u
-sides f g k =
-    record {
-      left = k.left;
-      right = k.right;
-      x_side = f k.left k.in_left;
-      t_side = g k.right k.in_right;
-      whole = k.whole;
-    }
-
-made_sides : {G : ℕ → Type 0} {x v : ℕ} (c : Case) (u : ℕ) → Made G x v c u → Sides G x v c u
-made_sides Free u m = sides (λ l. x_alone) (λ r. t_alone) m
-made_sides BothLinear u m = sides (λ l. x_extended) (λ r. t_extended) m
-made_sides PositionLinear u m = sides (λ l. x_closed tt) (λ r. t_extended) m
-made_sides TermLinear u m = sides (λ l. x_extended) (λ r. t_closed tt) m
-made_sides Neither u m = sides (λ l. x_closed tt) (λ r. t_closed tt) m
-
--- every group that a case makes holds x
-pub made_holds : (G : ℕ → Type 0) (x v : ℕ) (c : Case) (u : ℕ) → Made G x v c u → In x u
-made_holds G x v c u m =
-    let k = made_sides {G = G} {v = v} c u m in
-    let n = k.x_side.union in
-    rw (← k.whole) (in_left k.right (n.some_inside.each x n.some_told.holds))
-
--- ---- from the new groups to the closed form
-
-both_linked : {G : ℕ → Type 0} {x v : ℕ} {c : Case} (l r : ℕ) {p q : ℕ} → XSide G x v c l → TSide G x v c r → In p l ⊎ In p r → In q l ⊎ In q r → Linked (Covers G) x v c (bit_or l r) p q
-both_linked l r {p} {q} s t (inl i) (inl j) = linked_wider (within_left l r) (s.pair p q i j)
-both_linked l r s t (inl i) (inr j) =
-    across (covers_wider (within_left l r) (x_each s.union i)) (term_wider (within_right l r) (t_each t.union j))
-both_linked l r s t (inr i) (inl j) =
-    back (term_wider (within_right l r) (t_each t.union i)) (covers_wider (within_left l r) (x_each s.union j))
-both_linked l r {p} {q} s t (inr i) (inr j) = linked_wider (within_right l r) (t.pair p q i j)
-
-sides_cover : {G : ℕ → Type 0} {x v : ℕ} {c : Case} {w p q : ℕ} (l r : ℕ) → XSide G x v c l → TSide G x v c r → In p (bit_or l r) → In q (bit_or l r) → Within (bit_or l r) w → BindCovers (Covers G) x v c w p q
-sides_cover l r s t i j h =
-    met (covers_wider h (covers_wider (within_left l r) (x_some s.union)))
-    (covered_wider h (covered_wider (within_right l r) (t_some t.union)))
-    (linked_wider h (both_linked l r s t (in_either l r i) (in_either l r j)))
-
-new_cover : {G : ℕ → Type 0} {x v : ℕ} {c : Case} {w p q : ℕ} (u : ℕ) → NewGroup G x v c u → In p u → In q u → Within u w → BindCovers (Covers G) x v c w p q
-new_cover u (rest k) i j h =
-    untouched (record { part = u; inside = h; without = k.without; apart = k.apart; covered = covers_own k.group i j })
-new_cover {c = c} u (made m) i j h =
-    let k = made_sides c u m in
-    sides_cover k.left k.right k.x_side k.t_side (rw k.whole i) (rw k.whole j) (rw k.whole h)
-
-pub bind_cover_to : {G : ℕ → Type 0} {x v : ℕ} {c : Case} {w p q : ℕ} → Covers (NewGroup G x v c) w p q → BindCovers (Covers G) x v c w p q
-bind_cover_to k = new_cover k.group k.told k.left k.right k.inside
-
--- ---- and back
-
-x_group : {G : ℕ → Type 0} {w x p : ℕ} (k : Covers G w x p) → XGroup G x k.group
-x_group k = record { group = k.told; holds = k.left }
-
-t_group : {G : ℕ → Type 0} {v w y p : ℕ} (k : Covers G w y p) → In y v → TGroup G v k.group
-t_group {y = y} k h = record { group = k.told; meets = record { place = y; left = k.left; right = h } }
-
-two : {A B : ℕ → Type 0} (a b : ℕ) → A a → B b → Paired A B (bit_or a b)
-two a b s t = record { left = a; right = b; in_left = s; in_right = t; whole = refl }
-
--- in every case an x-group and a t-group are united
-pair_made : {G : ℕ → Type 0} {x v a b : ℕ} (c : Case) → XGroup G x a → TGroup G v b → Made G x v c (bit_or a b)
-pair_made {a = a} {b = b} Free s t = two a b s t
-pair_made {a = a} {b = b} BothLinear s t = two a b (alone s) (alone t)
-pair_made {a = a} {b = b} PositionLinear s t = two a b (one s) (alone t)
-pair_made {a = a} {b = b} TermLinear s t = two a b (alone s) (one t)
-pair_made {a = a} {b = b} Neither s t = two a b (one s) (one t)
-
-x_made : {G : ℕ → Type 0} {x v a a' b : ℕ} (c : Case) → UnitesX c → XGroup G x a → XGroup G x a' → TGroup G v b → Made G x v c (bit_or (bit_or a a') b)
-x_made Free y s s' t = absurd y
-x_made BothLinear y s s' t = absurd y
-x_made {a = a} {a' = a'} {b = b} PositionLinear y s s' t = two (bit_or a a') b (more s (one s')) (alone t)
-x_made TermLinear y s s' t = absurd y
-x_made {a = a} {a' = a'} {b = b} Neither y s s' t = two (bit_or a a') b (more s (one s')) (one t)
-
-t_made : {G : ℕ → Type 0} {x v a b b' : ℕ} (c : Case) → UnitesT c → XGroup G x a → TGroup G v b → TGroup G v b' → Made G x v c (bit_or a (bit_or b b'))
-t_made Free y s t t' = absurd y
-t_made BothLinear y s t t' = absurd y
-t_made PositionLinear y s t t' = absurd y
-t_made {a = a} {b = b} {b' = b'} TermLinear y s t t' = two a (bit_or b b') (alone s) (more t (one t'))
-t_made {a = a} {b = b} {b' = b'} Neither y s t t' = two a (bit_or b b') (one s) (more t (one t'))
-
--- an x-group and a t-group cover together what one of them holds
-pub pair_covers : {G : ℕ → Type 0} {x v a b w p q : ℕ} (c : Case) → XGroup G x a → TGroup G v b → Within a w → Within b w → In p a ⊎ In p b → In q a ⊎ In q b → Covers (NewGroup G x v c) w p q
-pair_covers {a = a} {b = b} c s t h k i j =
-    record { group = bit_or a b; told = made (pair_made c s t); left = either i; right = either j; inside = union_within h k }
-  where
-    either : {p : ℕ} → In p a ⊎ In p b → In p (bit_or a b)
-    either (inl i) = in_left b i
-    either (inr i) = in_right a i
-
-module _ {G : ℕ → Type 0} {x v w : ℕ} (c : Case) (at_x : Covers G w x x) (at_t : TermCovered (Covers G) v w) where
-  linked_covers : {p q : ℕ} → Linked (Covers G) x v c w p q → Covers (NewGroup G x v c) w p q
-  linked_covers (before k) =
-      elim (dec_in x k.group) [
-        | yes h ↦
-            pair_covers c (record { group = k.told; holds = h }) (t_group at_t.covered at_t.held) k.inside
-            at_t.covered.inside
-            (inl k.left)
-            (inl k.right)
-        | no n ↦
-            elim (dec_meets k.group v) [
-              | yes m ↦
-                  pair_covers c (x_group at_x) (record { group = k.told; meets = m }) at_x.inside k.inside (inr k.left)
-                  (inr k.right)
-              | no n' ↦
-                  record {
-                    group = k.group;
-                    told = rest (record { group = k.told; without = n; apart = n' });
-                    left = k.left;
-                    right = k.right;
-                    inside = k.inside;
-                  }
-            ]
-      ]
-  linked_covers (across k t) =
-      pair_covers c (x_group k) (t_group t.covered t.held) k.inside t.covered.inside (inl k.right)
-      (inr t.covered.right)
-  linked_covers (back t k) =
-      pair_covers c (x_group k) (t_group t.covered t.held) k.inside t.covered.inside (inr t.covered.right)
-      (inl k.right)
-  linked_covers (by_x y k l) =
-      let b = at_t.covered in
-      record {
-        group = bit_or (bit_or k.group l.group) b.group;
-        told = made (x_made c y (x_group k) (x_group l) (t_group b at_t.held));
-        left = in_left b.group (in_left l.group k.right);
-        right = in_left b.group (in_right k.group l.right);
-        inside = union_within (union_within k.inside l.inside) b.inside;
-      }
-  linked_covers (by_t y s t) =
-      let k = s.covered in
-      let l = t.covered in
-      record {
-        group = bit_or at_x.group (bit_or k.group l.group);
-        told = made (t_made c y (x_group at_x) (t_group k s.held) (t_group l t.held));
-        left = in_right at_x.group (in_left l.group k.right);
-        right = in_right at_x.group (in_right k.group l.right);
-        inside = union_within at_x.inside (union_within k.inside l.inside);
-      }
-
-rest_covers : {G : ℕ → Type 0} {x v : ℕ} {c : Case} {w p q : ℕ} → Apart (Covers G) x v w p q → Covers (NewGroup G x v c) w p q
-rest_covers a =
-    let k = a.covered in
-    record {
-      group = k.group;
-      told =
-          rest (record {
-            group = k.told;
-            without = λ i. a.without (k.inside.each _ i);
-            apart = λ m. a.apart (record { place = m.place; left = k.inside.each m.place m.left; right = m.right });
-          });
-      left = k.left;
-      right = k.right;
-      inside = within_trans k.inside a.inside;
-    }
-
-pub bind_cover_from : {G : ℕ → Type 0} {x v : ℕ} {c : Case} {w p q : ℕ} → BindCovers (Covers G) x v c w p q → Covers (NewGroup G x v c) w p q
-bind_cover_from (untouched a) = rest_covers a
-bind_cover_from {c = c} (met k t l) = linked_covers c k t l
+use Rattle.coverage.specs.BindLaws.{CoversApart, WithSide, SideCovered, UnitesLeft, UnitesRight, Linked, before, across, back, by_left, by_right, BindCovers, untouched, met}
+use Rattle.domain.proofs.Bits.{in_lacking, lacking_in, in_either, in_left, in_right, union_within, within_left, within_right, within_trans, meets_more}
+use Rattle.domain.proofs.Hull.{Sub, Inside, closure_like, pair_left, pair_right}
+use Rattle.domain.proofs.Made.{shared_left, shared_right, made_left, made_right}
+use Rattle.coverage.proofs.Searching.{dec_meets, in_sum}
+use Rattle.coverage.proofs.Cover.{covers_own, covers_wider, side_group}
 
 -- ---- what is covered after a bind hangs on what was covered before it alone
 
-module _ {C D : ℕ → ℕ → ℕ → Type 0} (f : (w p q : ℕ) → C w p q → D w p q) where
-  with_term_more : {v w q : ℕ} → WithTerm C v w q → WithTerm D v w q
-  with_term_more {w = w} {q = q} t = record { place = t.place; held = t.held; covered = f w t.place q t.covered }
+module _ {C D : ℕ → ℕ → ℕ → Type 0} {w : ℕ} (f : (p q : ℕ) → C w p q → D w p q) where
+  with_side_more : {a q : ℕ} → WithSide C a w q → WithSide D a w q
+  with_side_more {q = q} s = record { place = s.place; held = s.held; covered = f s.place q s.covered }
 
-  linked_more : {x v : ℕ} {c : Case} {w p q : ℕ} → Linked C x v c w p q → Linked D x v c w p q
-  linked_more (before k) = before (f _ _ _ k)
-  linked_more (across k t) = across (f _ _ _ k) (with_term_more t)
-  linked_more (back t k) = back (with_term_more t) (f _ _ _ k)
-  linked_more (by_x y k l) = by_x y (f _ _ _ k) (f _ _ _ l)
-  linked_more (by_t y s t) = by_t y (with_term_more s) (with_term_more t)
+  side_covered_more : {a : ℕ} → SideCovered C a w → SideCovered D a w
+  side_covered_more s = record { place = s.place; held = s.held; covered = f s.place s.place s.covered }
 
-  pub bind_covers_more : {x v : ℕ} {c : Case} {w p q : ℕ} → BindCovers C x v c w p q → BindCovers D x v c w p q
-  bind_covers_more (untouched a) =
-      untouched (record { part = a.part; inside = a.inside; without = a.without; apart = a.apart; covered = f _ _ _ a.covered })
-  bind_covers_more (met k t l) =
-      met (f _ _ _ k) (record { place = t.place; held = t.held; covered = f _ _ _ t.covered }) (linked_more l)
+  linked_more : {a b : ℕ} {c : Case} {p q : ℕ} → Linked C a b c w p q → Linked D a b c w p q
+  linked_more (before k) = before (f _ _ k)
+  linked_more (across s t) = across (with_side_more s) (with_side_more t)
+  linked_more (back t s) = back (with_side_more t) (with_side_more s)
+  linked_more (by_left y s t) = by_left y (with_side_more s) (with_side_more t)
+  linked_more (by_right y s t) = by_right y (with_side_more s) (with_side_more t)
 
-pub bind_same : {G H : ℕ → Type 0} {x v : ℕ} {c : Case} → SameCover G H → SameCover (NewGroup G x v c) (NewGroup H x v c)
+bind_covers_more : {C D : ℕ → ℕ → ℕ → Type 0} {a b : ℕ} {c : Case} {w p q : ℕ} → ((w p q : ℕ) → C w p q → D w p q) → BindCovers C a b c w p q → BindCovers D a b c w p q
+bind_covers_more f (untouched k) =
+    untouched (record { part = k.part; inside = k.inside; left = k.left; right = k.right; covered = f _ _ _ k.covered })
+bind_covers_more {w = w} f (met s t l) =
+    met (side_covered_more (f w) s) (side_covered_more (f w) t) (linked_more (f w) l)
+
+-- ---- the two sides of a new group
+
+-- each position of a union of groups of A is one of a group inside the union
+pub closure_covers : {A : ℕ → Type 0} {u p : ℕ} → Closure A u → In p u → Covers A u p p
+closure_covers (one k) i = covers_own k i i
+closure_covers (more {g = g} {h = h} k l) i =
+    elim (in_either g h i) [
+      | inl j ↦ covers_wider (within_left g h) (covers_own k j j)
+      | inr j ↦ covers_wider (within_right g h) (closure_covers l j)
+    ]
+
+-- a position of a union of groups of a side, and some position of the side, in a window w around the union
+closure_near : {G : ℕ → Type 0} {a u w p : ℕ} → Closure (Side G a) u → Within u w → In p u → WithSide (Covers G) a w p
+closure_near k h i =
+    let c = closure_covers k i in
+    let at = c.told.left in
+    record { place = at.place; held = at.right; covered = covers_wider (within_trans c.inside h) (covers_own c.told.group at.left c.right) }
+
+side_some : {G : ℕ → Type 0} {a u w : ℕ} → Inside (Side G a) u → Within u w → SideCovered (Covers G) a w
+side_some k h =
+    let at = k.told.left in
+    record { place = at.place; held = at.right; covered = covers_wider (within_trans k.inside h) (covers_own k.told.group at.left at.left) }
+
+-- what ties two positions of one side together: a group of both, a group of the other side, whose mask is b, that
+-- holds one of them, or that the groups of the side are united among themselves
+data Tie (C : ℕ → ℕ → ℕ → Type 0) (b : ℕ) (U : Type 0) (w p q : ℕ) : Type 0 where
+  own : C w p q → Tie C b U w p q
+  first : WithSide C b w p → Tie C b U w p q
+  second : WithSide C b w q → Tie C b U w p q
+  united : U → Tie C b U w p q
+
+-- one side of a new group: in the window w each position is covered with one of the side, and each two are tied
+record NewSide (G : ℕ → Type 0) (a b : ℕ) (U : Type 0) (w u : ℕ) : Type 0 where
+  near : (p : ℕ) → In p u → WithSide (Covers G) a w p
+  tied : (p q : ℕ) → In p u → In q u → Tie (Covers G) b U w p q
+
+module _ {G : ℕ → Type 0} {a b : ℕ} {U : Type 0} {w : ℕ} where
+  side_alone : (u : ℕ) → Side G a u → Within u w → NewSide G a b U w u
+  side_alone u k h =
+      record { near = λ p. closure_near (one k) h; tied = λ p q i j. own (covers_wider h (covers_own k.group i j)) }
+
+  side_closed : U → (u : ℕ) → Closure (Side G a) u → Within u w → NewSide G a b U w u
+  side_closed y u k h = record { near = λ p. closure_near k h; tied = λ p q i j. united y }
+
+  -- groups of S serve as groups of both sides
+  side_extended : {S : ℕ → Type 0} → Sub S (Side G a) → Sub S (Side G b) → (u : ℕ) → Extended (Side G a) S u → Within u w → NewSide G a b U w u
+  side_extended to_a to_b u (alone k) h = side_alone u k h
+  side_extended {S} to_a to_b u (joined k) h =
+      record {
+        near = λ p i. closure_near (more k.in_left (closure_like to_a k.in_right)) (rw k.whole h) (rw k.whole i);
+        tied = λ p q i j. by (in_either k.left k.right (rw k.whole i)) (in_either k.left k.right (rw k.whole j));
+      }
+    where
+      other : {p : ℕ} → In p k.right → WithSide (Covers G) b w p
+      other i = closure_near (closure_like to_b k.in_right) (within_trans (pair_right k) h) i
+
+      by : {p q : ℕ} → In p k.left ⊎ In p k.right → In q k.left ⊎ In q k.right → Tie (Covers G) b U w p q
+      by (inl i) (inl j) = own (covers_wider (within_trans (pair_left k) h) (covers_own k.in_left.group i j))
+      by (inl i) (inr j) = second (other j)
+      by (inr i) j = first (other i)
+
+-- ---- from the new groups to the closed form
+
+left_linked : {C : ℕ → ℕ → ℕ → Type 0} {a b : ℕ} {c : Case} {w p q : ℕ} → Tie C b (UnitesLeft c) w p q → WithSide C a w p → WithSide C a w q → Linked C a b c w p q
+left_linked (own k) s t = before k
+left_linked (first k) s t = back k t
+left_linked (second k) s t = across s k
+left_linked (united y) s t = by_left y s t
+
+right_linked : {C : ℕ → ℕ → ℕ → Type 0} {a b : ℕ} {c : Case} {w p q : ℕ} → Tie C a (UnitesRight c) w p q → WithSide C b w p → WithSide C b w q → Linked C a b c w p q
+right_linked (own k) s t = before k
+right_linked (first k) s t = across k t
+right_linked (second k) s t = back s k
+right_linked (united y) s t = by_right y s t
+
+module _ {G : ℕ → Type 0} {a b : ℕ} where
+  paired_linked : {A B : ℕ → Type 0} {c : Case} {u w p q : ℕ} → ((l : ℕ) → A l → Within l w → NewSide G a b (UnitesLeft c) w l)
+      → ((r : ℕ) → B r → Within r w → NewSide G b a (UnitesRight c) w r) → Paired A B u → Within u w → In p u → In q u → Linked (Covers G) a b c w p q
+  paired_linked {c = c} {w = w} f g k h i j = by (in_either k.left k.right (rw k.whole i)) (in_either k.left k.right (rw k.whole j))
+    where
+      s : NewSide G a b (UnitesLeft c) w k.left
+      s = f k.left k.in_left (within_trans (pair_left k) h)
+
+      t : NewSide G b a (UnitesRight c) w k.right
+      t = g k.right k.in_right (within_trans (pair_right k) h)
+
+      by : {p q : ℕ} → In p k.left ⊎ In p k.right → In q k.left ⊎ In q k.right → Linked (Covers G) a b c w p q
+      by (inl i) (inl j) = left_linked (s.tied _ _ i j) (s.near _ i) (s.near _ j)
+      by (inl i) (inr j) = across (s.near _ i) (t.near _ j)
+      by (inr i) (inl j) = back (t.near _ i) (s.near _ j)
+      by (inr i) (inr j) = right_linked (t.tied _ _ i j) (t.near _ i) (t.near _ j)
+
+  left : {U : Type 0} {w : ℕ} (l : ℕ) → Extended (Side G a) (Shared G a b) l → Within l w → NewSide G a b U w l
+  left = side_extended (shared_left G a b) (shared_right G a b)
+
+  right : {U : Type 0} {w : ℕ} (r : ℕ) → Extended (Side G b) (Shared G a b) r → Within r w → NewSide G b a U w r
+  right = side_extended (shared_right G a b) (shared_left G a b)
+
+  made_linked : (c : Case) {u w p q : ℕ} → Made G a b c u → Within u w → In p u → In q u → Linked (Covers G) a b c w p q
+  made_linked Free m = paired_linked side_alone side_alone m
+  made_linked BothLinear m = paired_linked left right m
+  made_linked PositionLinear m = paired_linked (side_closed tt) right m
+  made_linked TermLinear m = paired_linked left (side_closed tt) m
+  made_linked Neither m = paired_linked (side_closed tt) (side_closed tt) m
+
+pub bind_cover_to : {G : ℕ → Type 0} {a b : ℕ} {c : Case} {w p q : ℕ} → Covers (NewGroup G a b c) w p q → BindCovers (Covers G) a b c w p q
+bind_cover_to {G} {a} {b} {c} k =
+    elim k.told [
+      | rest n ↦
+          untouched (record { part = k.group; inside = k.inside; left = n.left; right = n.right; covered = covers_own n.group k.left k.right })
+      | made m ↦
+          met (side_some (made_left G a b c m) k.inside) (side_some (made_right G a b c m) k.inside)
+          (made_linked c m k.inside k.left k.right)
+    ]
+
+-- ---- and back
+
+-- what of a side is united with what of the other, inside w: groups of A, and one alone where U does not hold
+record Arm (U : Type 0) (A : ℕ → Type 0) (w g : ℕ) : Type 0 where
+  closed : Closure A g
+  lone : (U → ⊥) → A g
+  inside : Within g w
+
+module _ {G : ℕ → Type 0} {U : Type 0} {a w : ℕ} where
+  arm : {p q : ℕ} (k : Covers G w p q) → In p a → Arm U (Side G a) w k.group
+  arm k h = let s = side_group k.told k.left h in record { closed = one s; lone = λ n. s; inside = k.inside }
+
+  two_arm : {p q : ℕ} → U → (s : WithSide (Covers G) a w p) (t : WithSide (Covers G) a w q) → Arm U (Side G a) w (bit_or s.covered.group t.covered.group)
+  two_arm y s t =
+      let k = s.covered in
+      let l = t.covered in
+      record {
+        closed = more (side_group k.told k.left s.held) (one (side_group l.told l.left t.held));
+        lone = λ n. absurd (n y);
+        inside = union_within k.inside l.inside;
+      }
+
+pair : {A B : ℕ → Type 0} (l r : ℕ) → A l → B r → Paired A B (bit_or l r)
+pair l r s t = record { left = l; right = r; in_left = s; in_right = t; whole = refl }
+
+module _ {G : ℕ → Type 0} {a b w : ℕ} where
+  arms_made : (l r : ℕ) (c : Case) → Arm (UnitesLeft c) (Side G a) w l → Arm (UnitesRight c) (Side G b) w r → Made G a b c (bit_or l r)
+  arms_made l r Free s t = pair l r (s.lone (λ y. y)) (t.lone (λ y. y))
+  arms_made l r BothLinear s t = pair l r (alone (s.lone (λ y. y))) (alone (t.lone (λ y. y)))
+  arms_made l r PositionLinear s t = pair l r s.closed (alone (t.lone (λ y. y)))
+  arms_made l r TermLinear s t = pair l r (alone (s.lone (λ y. y))) t.closed
+  arms_made l r Neither s t = pair l r s.closed t.closed
+
+module _ {G : ℕ → Type 0} {a b w : ℕ} (c : Case) where
+  -- the two cover together what one of them holds
+  arms_cover : {l r p q : ℕ} → Arm (UnitesLeft c) (Side G a) w l → Arm (UnitesRight c) (Side G b) w r → In p l ⊎ In p r → In q l ⊎ In q r → Covers (NewGroup G a b c) w p q
+  arms_cover {l} {r} s t i j =
+      record {
+        group = bit_or l r;
+        told = made (arms_made l r c s t);
+        left = in_sum l r i;
+        right = in_sum l r j;
+        inside = union_within s.inside t.inside;
+      }
+
+  linked_covers : {p q : ℕ} → SideCovered (Covers G) a w → SideCovered (Covers G) b w → Linked (Covers G) a b c w p q → Covers (NewGroup G a b c) w p q
+  linked_covers {p} {q} l r (before k) = by (dec_meets k.group a) (dec_meets k.group b)
+    where
+      own_arm : {U : Type 0} {m : ℕ} → Meets k.group m → Arm U (Side G m) w k.group
+      own_arm m = let s = side_group k.told m.left m.right in record { closed = one s; lone = λ n. s; inside = k.inside }
+
+      by : Dec (Meets k.group a) → Dec (Meets k.group b) → Covers (NewGroup G a b c) w p q
+      by (yes m) n = arms_cover (own_arm m) (arm r.covered r.held) (inl k.left) (inl k.right)
+      by (no n) (yes m) = arms_cover (arm l.covered l.held) (own_arm m) (inr k.left) (inr k.right)
+      by (no n) (no m) =
+          covers_wider k.inside (covers_own (rest (record { group = k.told; left = n; right = m })) k.left k.right)
+  linked_covers l r (across s t) =
+      arms_cover (arm s.covered s.held) (arm t.covered t.held) (inl s.covered.right) (inr t.covered.right)
+  linked_covers l r (back t s) =
+      arms_cover (arm s.covered s.held) (arm t.covered t.held) (inr t.covered.right) (inl s.covered.right)
+  linked_covers l r (by_left y s t) =
+      arms_cover (two_arm y s t) (arm r.covered r.held) (inl (in_left t.covered.group s.covered.right))
+      (inl (in_right s.covered.group t.covered.right))
+  linked_covers l r (by_right y s t) =
+      arms_cover (arm l.covered l.held) (two_arm y s t) (inr (in_left t.covered.group s.covered.right))
+      (inr (in_right s.covered.group t.covered.right))
+
+pub bind_cover_from : {G : ℕ → Type 0} {a b : ℕ} {c : Case} {w p q : ℕ} → BindCovers (Covers G) a b c w p q → Covers (NewGroup G a b c) w p q
+bind_cover_from (untouched s) =
+    let k = s.covered in
+    covers_wider (within_trans k.inside s.inside)
+    (covers_own
+    (rest (record { group = k.told; left = λ m. s.left (meets_more m k.inside); right = λ m. s.right (meets_more m k.inside) }))
+    k.left
+    k.right)
+bind_cover_from {c = c} (met s t l) = linked_covers c s t l
+
+pub bind_same : {G H : ℕ → Type 0} {a b : ℕ} {c : Case} → SameCover G H → SameCover (NewGroup G a b c) (NewGroup H a b c)
 bind_same s =
     record {
       to = λ w p q k. bind_cover_from (bind_covers_more s.to (bind_cover_to k));
       from = λ w p q k. bind_cover_from (bind_covers_more s.from (bind_cover_to k));
     }
 
--- ---- what a bind makes
+-- ---- the window without both masks
 
-pub bound_cover_to : {d e : Told} {x : ℕ} {t : Term} {w p q : ℕ} (b : Bound d x t e) → Covers (Group e) w p q → BindCovers (Covers (Group d)) x t.held b.case w p q
-bound_cover_to b k = bind_cover_to (covers_more b.groups_only k)
-
-pub bound_cover_from : {d e : Told} {x : ℕ} {t : Term} {w p q : ℕ} (b : Bound d x t e) → BindCovers (Covers (Group d)) x t.held b.case w p q → Covers (Group e) w p q
-bound_cover_from b k = covers_more b.groups_made (bind_cover_from k)
-
--- ---- the window without x and the term
-
-pub apart_window : {G : ℕ → Type 0} {x v w p q : ℕ} → Apart (Covers G) x v w p q → Covers G (minus w (bit_or (2 ^ x) v)) p q
-apart_window {x = x} {v = v} {w = w} a = covers_wider (record { each = λ r i. in_lacking (a.inside.each r i) (out r i) }) a.covered
+pub apart_window : {G : ℕ → Type 0} {a b w p q : ℕ} → CoversApart (Covers G) a b w p q → Covers G (without w (bit_or a b)) p q
+apart_window {a = a} {b = b} s =
+    covers_wider (record { each = λ r i. in_lacking (s.inside.each r i) (λ j. out r i (in_either a b j)) }) s.covered
   where
-    out : (r : ℕ) → In r a.part → In r (bit_or (2 ^ x) v) → ⊥
-    out r i j =
-        elim (in_either (2 ^ x) v j) [
-          | inl k ↦ a.without (subst (λ y. In y a.part) (single_in k) i)
-          | inr k ↦ a.apart (record { place = r; left = i; right = k })
-        ]
+    out : (r : ℕ) → In r s.part → In r a ⊎ In r b → ⊥
+    out r i (inl j) = s.left (record { place = r; left = i; right = j })
+    out r i (inr j) = s.right (record { place = r; left = i; right = j })
 
-pub window_apart : {G : ℕ → Type 0} {p q : ℕ} (x v w : ℕ) → Covers G (minus w (bit_or (2 ^ x) v)) p q → Apart (Covers G) x v w p q
-window_apart x v w k =
-    let u = bit_or (2 ^ x) v in
+pub window_apart : {G : ℕ → Type 0} {p q : ℕ} (a b w : ℕ) → Covers G (without w (bit_or a b)) p q → CoversApart (Covers G) a b w p q
+window_apart a b w k =
+    let u = bit_or a b in
     record {
-      part = minus w u;
+      part = without w u;
       inside = record { each = λ r i. (lacking_in w u i).0 };
-      without = λ i. (lacking_in w u i).1 (in_left v (in_single x));
-      apart = λ m. (lacking_in w u m.left).1 (in_right (2 ^ x) m.right);
+      left = λ m. (lacking_in w u m.left).1 (in_left b m.right);
+      right = λ m. (lacking_in w u m.left).1 (in_right a m.right);
       covered = k;
     }

@@ -6,6 +6,7 @@ use Rattle.std.proofs.lemmas.Bool.{false≢true}
 use Rattle.domain.specs.Masks.{In}
 use Rattle.domain.specs.Lists.{Above, none, next}
 use Rattle.domain.specs.Coverage.{Listed, here, there}
+use Rattle.domain.specs.Told.{Passes}
 use Rattle.domain.proofs.Bits.{none_in, in_left, in_right, in_either, in_single, single_in, within_le}
 use Rattle.coverage.proofs.Counting.{listed_cases, empty_listed}
 
@@ -13,24 +14,28 @@ use Rattle.coverage.proofs.Counting.{listed_cases, empty_listed}
 
 pub record Tested (P : ℕ → Type 0) : Type 0 where
   pub test : ℕ → Bool
-  pub only : (k : ℕ) → test k ≡ true → P k
-  pub all : (k : ℕ) → P k → test k ≡ true
+  pub only : (k : ℕ) → Passes test k → P k
+  pub all : (k : ℕ) → P k → Passes test k
 
-abbrev passes : {P : Type 0} → Dec P → Bool
-passes (yes p) = true
-passes (no n) = false
+abbrev verdict : {P : Type 0} → Dec P → Bool
+verdict (yes p) = true
+verdict (no n) = false
 
-passes_only : {P : Type 0} (d : Dec P) → passes d ≡ true → P
-passes_only (yes p) e = p
-passes_only (no n) e = absurd (false≢true e)
+verdict_only : {P : Type 0} (d : Dec P) → verdict d ≡ true → P
+verdict_only (yes p) e = p
+verdict_only (no n) e = absurd (false≢true e)
 
-passes_all : {P : Type 0} (d : Dec P) → P → passes d ≡ true
-passes_all (yes p) q = refl
-passes_all (no n) q = absurd (n q)
+verdict_all : {P : Type 0} (d : Dec P) → P → verdict d ≡ true
+verdict_all (yes p) q = refl
+verdict_all (no n) q = absurd (n q)
 
 pub tested : {P : ℕ → Type 0} → ((k : ℕ) → Dec (P k)) → Tested P
 tested dec =
-    record { test = λ k. passes (dec k); only = λ k e. passes_only (dec k) e; all = λ k p. passes_all (dec k) p }
+    record {
+      test = λ k. verdict (dec k);
+      only = λ k t. verdict_only (dec k) t.told;
+      all = λ k p. record { told = verdict_all (dec k) p };
+    }
 
 -- ---- a mask
 

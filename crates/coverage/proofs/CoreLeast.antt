@@ -1,60 +1,41 @@
 -- The core of a set: it covers the same pairs, and every set that does so holds it.
 use Rattle.std.proofs.Common.{◌≡◌, ℕ, true, sym, subst, arith}
 use mathlib.Core.Bool.{Bool-discrete}
-use native.Mathlib.Decide.{ℕ_discrete}
-use Rattle.domain.specs.Masks.{In, Within}
+use native.Mathlib.Decide.{ℕ_discrete, map_dec}
+use Rattle.domain.specs.Masks.{Within}
 use Rattle.domain.specs.Told.{Told, Group}
 use Rattle.domain.specs.Coverage.{Covers, SameCover, Alike, Core, CoreFits}
+use Rattle.coverage.specs.Walks.{Holding}
 use Rattle.domain.proofs.Bits.{within_le, same_mask, within_trans}
-use Rattle.coverage.proofs.Decided.{dec_in, dec_within}
-use Rattle.coverage.proofs.Searching.{Least, least}
+use Rattle.coverage.proofs.Searching.{dec_both, dec_in, dec_within, Least, least}
 use Rattle.coverage.proofs.Cover.{covers_own, same_turned, same_trans, same_groups}
 
 -- ---- the core covers the same pairs
 
--- a group inside w that holds both positions
-record Fitting (G : ℕ → Type 0) (w p q g : ℕ) : Type 0 where
-  told : G g
-  left : In p g
-  right : In q g
-  inside : Within g w
+pub dec_holding : {G : ℕ → Type 0} → ((g : ℕ) → Dec (G g)) → (p q g : ℕ) → Dec (Holding G p q g)
+dec_holding dec p q g =
+    map_dec (λ r. record { told = r.0; left = r.1.0; right = r.1.1 }) (λ h. (h.told, (h.left, h.right)))
+    (dec_both (dec g) (dec_both (dec_in p g) (dec_in q g)))
 
-dec_fitting : {G : ℕ → Type 0} → ((g : ℕ) → Dec (G g)) → (w p q g : ℕ) → Dec (Fitting G w p q g)
-dec_fitting dec w p q g =
-    elim (dec g) [
-      | no n ↦ no (λ f. n f.told)
-      | yes t ↦
-          elim (dec_in p g) [
-            | no n ↦ no (λ f. n f.left)
-            | yes i ↦
-                elim (dec_in q g) [
-                  | no n ↦ no (λ f. n f.right)
-                  | yes j ↦
-                      elim (dec_within g w)
-                      [ no n ↦ no (λ f. n f.inside) | yes h ↦ yes (record { told = t; left = i; right = j; inside = h }) ]
-                ]
-          ]
-    ]
-
--- the least of them is a core group
-least_core : {G : ℕ → Type 0} {w p q : ℕ} (l : Least (Fitting G w p q)) → Core G l.at
+-- the least group inside w that holds both positions is a core group
+least_core : {G : ℕ → Type 0} {w p q : ℕ} (l : Least (λ g. Holding G p q g × Within g w)) → Core G l.at
 least_core {p = p} {q = q} l =
     record {
-      told = l.holds.told;
+      told = l.holds.0.told;
       p = p;
       q = q;
-      left = l.holds.left;
-      right = l.holds.right;
+      left = l.holds.0.left;
+      right = l.holds.0.right;
       uncovered =
           λ h t u ne i j.
-          l.first h (omega (arith, within_le u))
-          (record { told = t; left = i; right = j; inside = within_trans u l.holds.inside });
+          l.first h (omega (arith, within_le u)) (record { told = t; left = i; right = j }, within_trans u l.holds.1);
     }
 
 pub core_covers : {G : ℕ → Type 0} {w p q : ℕ} → ((g : ℕ) → Dec (G g)) → Covers G w p q → Covers (Core G) w p q
 core_covers {G} {w} {p} {q} dec c =
-    let l = least (dec_fitting dec w p q) c.group (record { told = c.told; left = c.left; right = c.right; inside = c.inside }) in
-    record { group = l.at; told = least_core l; left = l.holds.left; right = l.holds.right; inside = l.holds.inside }
+    let l : Least (λ g. Holding G p q g × Within g w) =
+    least (λ g. dec_both (dec_holding dec p q g) (dec_within g w)) c.group (record { told = c.told; left = c.left; right = c.right }, c.inside) in
+    record { group = l.at; told = least_core l; left = l.holds.0.left; right = l.holds.0.right; inside = l.holds.1 }
 
 pub core_told : {G : ℕ → Type 0} {w p q : ℕ} → Covers (Core G) w p q → Covers G w p q
 core_told c =

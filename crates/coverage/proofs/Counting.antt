@@ -1,25 +1,22 @@
--- Lists in which nothing stands twice, and the number of core groups.
-use Rattle.std.proofs.Common.{◌≡◌, ℕ, suc, ◌+◌, ◌*◌, ◌%◌, ◌^◌, ◌<◌, ◌≤◌, ◌≢◌, ◌⊎◌, List, [], ◌∷◌, length, None, Ok, sym, refl, subst, inl, inr, le_antisymm, arith}
-use native.Mathlib.Decide.{ℕ_discrete}
+-- Lists in which nothing stands twice, and how many core groups there are.
+use Rattle.std.proofs.Common.{◌≡◌, ℕ, suc, ◌*◌, ◌%◌, ◌^◌, ◌<◌, ◌≤◌, ◌≢◌, ◌⊎◌, List, [], ◌∷◌, length, refl, subst, inl, inr, le_antisymm, arith}
 use Rattle.std.proofs.lemmas.Nat.{one_shl}
 use Rattle.domain.specs.Coverage.{Core, Listed, here, there, CoreFits, SameCover}
-use Rattle.domain.specs.Refusals.{first_of}
-use Rattle.domain.specs.Requests.{open_tests, Gives}
-use Rattle.domain.specs.Tables.{told_of}
-use Rattle.domain.specs.Told.{Group}
+use Rattle.domain.specs.Tables.{TableGroup}
+use Rattle.domain.specs.declared.limits.TheConstants.{MOST_POSITIONS}
 use Rattle.domain.proofs.Laws.{of_group}
-use Rattle.domain.proofs.Refusing.{counted_few}
-use Rattle.coverage.specs.Walks.{TableGroup}
 use Rattle.coverage.specs.Counts.{Distinct, none, more, CoreCount}
 use Rattle.coverage.proofs.Cover.{same_turned}
 use Rattle.coverage.proofs.CoreLeast.{core_kept}
-use Rattle.coverage.proofs.Pairs.{core_as}
 
 -- ---- lists
 
 pub listed_cases : {h g : ℕ} {gs : List ℕ} → Listed h (g ∷ gs) → (h ≡ g) ⊎ Listed h gs
 listed_cases here = inl refl
 listed_cases (there l) = inr l
+
+pub empty_listed : {h : ℕ} {A : Type 0} → Listed h [] → A
+empty_listed l = elim l [ ]
 
 -- the list without one entry of g: one shorter, and all others stay
 record Removed (g : ℕ) (ys : List ℕ) : Type 0 where
@@ -72,89 +69,14 @@ count_le s c d =
 pub count_same : {G H : ℕ → Type 0} {j k : ℕ} → SameCover G H → CoreCount G j → CoreCount H k → j ≡ k
 count_same s c d = le_antisymm (count_le s c d) (count_le (same_turned s) d c)
 
--- ---- counting upwards
-
--- the core groups below g are k
-pub record CountedTo (G : ℕ → Type 0) (g k : ℕ) : Type 0 where
-  pub groups : List ℕ
-  pub counted : length groups ≡ k
-  pub once : Distinct groups
-  pub only : (h : ℕ) → Listed h groups → Core G h × (h < g)
-  pub all : (h : ℕ) → Core G h → h < g → Listed h groups
-
-pub empty_listed : {h : ℕ} {A : Type 0} → Listed h [] → A
-empty_listed l = elim l [ ]
-
-pub count_start : {G : ℕ → Type 0} → (Core G 0 → ⊥) → CountedTo G 1 0
-count_start {G} n =
-    record {
-      groups = [];
-      counted = refl;
-      once = none;
-      only = λ h l. empty_listed l;
-      all = λ h c b. let z : h ≡ 0 = omega arith in absurd (n (subst (Core G) z c));
-    }
-
-pub count_skip : {G : ℕ → Type 0} {g k : ℕ} → (Core G g → ⊥) → CountedTo G g k → CountedTo G (g + 1) k
-count_skip {G} {g} n c =
-    record {
-      groups = c.groups;
-      counted = c.counted;
-      once = c.once;
-      only = λ h l. let o = c.only h l in (o.0, omega (arith, o.1));
-      all =
-          λ h k b.
-          elim (ℕ_discrete h g) [ yes e ↦ absurd (n (subst (Core G) e k)) | no ne ↦ c.all h k (omega arith) ];
-    }
-
-pub count_one : {G : ℕ → Type 0} {g k : ℕ} → Core G g → CountedTo G g k → CountedTo G (g + 1) (k + 1)
-count_one {G} {g} t c =
-    record {
-      groups = g ∷ c.groups;
-      counted = omega (arith, c.counted);
-      once = more (λ l. omega (arith, (c.only g l).1)) c.once;
-      only =
-          λ h l.
-          elim (listed_cases l)
-          [ inl e ↦ (subst (Core G) (sym e) t, omega arith) | inr m ↦ let o = c.only h m in (o.0, omega (arith, o.1)) ];
-      all =
-          λ h k b.
-          elim (ℕ_discrete h g)
-          [ yes e ↦ subst (λ z. Listed h (z ∷ c.groups)) e here | no ne ↦ there (c.all h k (omega arith)) ];
-    }
-
-pub count_end : {G : ℕ → Type 0} {g k : ℕ} → ((h : ℕ) → Core G h → h < g) → CountedTo G g k → CoreCount G k
-count_end b c =
-    record {
-      groups = c.groups;
-      counted = c.counted;
-      once = c.once;
-      only = λ h l. (c.only h l).0;
-      all = λ h k. c.all h k (b h k);
-    }
-
--- the count of a set with the same groups
-pub count_as : {G H : ℕ → Type 0} {k : ℕ} → ((h : ℕ) → G h → H h) → ((h : ℕ) → H h → G h) → CoreCount G k → CoreCount H k
-count_as f b c =
-    record {
-      groups = c.groups;
-      counted = c.counted;
-      once = c.once;
-      only = λ g l. core_as f b (c.only g l);
-      all = λ g k. c.all g (core_as b f k);
-    }
-
 -- ---- tables
 
 -- a core group of a table is not empty, and is a set of its positions
 pub core_range : (n : ℕ) (t : List ℕ) (g : ℕ) → Core (TableGroup n t) g → (0 < g) × (g < 2 ^ n)
-core_range n t g c = let r = of_group n t 0 0 g c.told in (r.0, r.1)
-
--- a count that was given: the number of positions was not refused
-pub counted_core : {k : ℕ} (n : ℕ) (t : List ℕ) → Gives (first_of (open_tests n)) (Ok k) (λ k. (f l : ℕ) → CoreCount (Group (told_of n t f l)) k)
-    → (first_of (open_tests n) ≡ None) × (n < 13) × ((f l : ℕ) → CoreCount (Group (told_of n t f l)) k)
-counted_core {k} n t h = counted_few n k (λ k. (f l : ℕ) → CoreCount (Group (told_of n t f l)) k) h
+core_range n t g c = let r = of_group n t g c.told in (r.0, r.1)
 
 -- a loop that ends at 2 to the power n, as code computes it, is past every core group
-pub core_below : (n : ℕ) (t : List ℕ) (g : ℕ) → n < 13 → 1 * 2 ^ n % 65536 ≤ g → (h : ℕ) → Core (TableGroup n t) h → h < g
-core_below n t g few past h k = omega (arith, (core_range n t h k).1, one_shl n 16 (omega arith), past)
+pub core_below : (n : ℕ) (t : List ℕ) (g : ℕ) → n ≤ MOST_POSITIONS → 1 * 2 ^ n % 2 ^ 16 ≤ g → (h : ℕ) → Core (TableGroup n t) h → h < g
+core_below n t g few past h k =
+    let small : n ≤ 12 = few in
+    omega (arith, (core_range n t h k).1, one_shl n 16 (omega arith), past)

@@ -1,9 +1,10 @@
 -- Coverage by itself: wider windows, exchanged positions, and when two sets cover the same pairs.
-use Rattle.std.proofs.Common.{ℕ, sym, refl, ◌∙◌}
-use Rattle.domain.specs.Masks.{In, Within}
-use Rattle.domain.specs.Told.{Told}
+use Rattle.std.proofs.Common.{◌≡◌, ℕ, sym, refl, ◌∙◌}
+use Rattle.domain.specs.Masks.{In, Within, Meets}
+use Rattle.domain.specs.Groups.{Side}
+use Rattle.domain.specs.Told.{Told, Group}
 use Rattle.domain.specs.Coverage.{Covers, SameCover, Alike}
-use Rattle.domain.proofs.Bits.{within_self, within_trans}
+use Rattle.domain.proofs.Bits.{same_mask, within_self, within_trans}
 
 -- a pair that a group covers in itself
 pub covers_own : {G : ℕ → Type 0} {g p q : ℕ} → G g → In p g → In q g → Covers G g p q
@@ -31,18 +32,38 @@ same_trans s t =
 pub same_groups : {G H : ℕ → Type 0} → ((g : ℕ) → G g → H g) → ((g : ℕ) → H g → G g) → SameCover G H
 same_groups f b = record { to = λ w p q c. covers_more f c; from = λ w p q c. covers_more b c }
 
+-- a group that holds a position of a side is one of that side
+pub side_group : {G : ℕ → Type 0} {a g p : ℕ} → G g → In p g → In p a → Side G a g
+side_group {a = a} {g = g} {p = p} t i h =
+    let m : Meets g a = record { place = p; left = i; right = h } in record { group = t; left = m; right = m }
+
+-- ---- descriptions
+
 pub alike_refl : {d : Told} → Alike d d
-alike_refl = record { positions = refl; free = refl; linear = refl; cover = same_refl }
+alike_refl = record { positions = refl; marks = refl; cover = same_refl }
 
 pub alike_turned : {d e : Told} → Alike d e → Alike e d
-alike_turned a =
-    record { positions = sym a.positions; free = sym a.free; linear = sym a.linear; cover = same_turned a.cover }
+alike_turned a = record { positions = sym a.positions; marks = sym a.marks; cover = same_turned a.cover }
 
 pub alike_trans : {d e f : Told} → Alike d e → Alike e f → Alike d f
 alike_trans a b =
     record {
       positions = a.positions ∙ b.positions;
-      free = a.free ∙ b.free;
-      linear = a.linear ∙ b.linear;
+      marks = a.marks ∙ b.marks;
       cover = same_trans a.cover b.cover;
+    }
+
+-- e has the positions of d, and at least its marks and what it covers
+pub record PartOf (d e : Told) : Type 0 where
+  pub positions : d.n ≡ e.n
+  pub free : Within d.marks.free e.marks.free
+  pub linear : Within d.marks.linear e.marks.linear
+  pub cover : (w p q : ℕ) → Covers (Group d) w p q → Covers (Group e) w p q
+
+pub both_alike : {d e : Told} → PartOf d e → PartOf e d → Alike d e
+both_alike {d} {e} a b =
+    record {
+      positions = a.positions;
+      marks = λ i. record { free = same_mask a.free b.free i; linear = same_mask a.linear b.linear i };
+      cover = record { to = a.cover; from = b.cover };
     }

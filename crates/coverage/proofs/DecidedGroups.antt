@@ -1,25 +1,25 @@
 -- The kinds of groups that the bind rule speaks of can be decided, where the groups themselves can.
 use Rattle.std.proofs.Common.{◌≡◌, ℕ, zero, suc, ◌<◌, inl, inr, arith}
-use native.Mathlib.Decide.{ℕ_discrete}
+use native.Mathlib.Decide.{ℕ_discrete, map_dec}
 use lib.Bits.{bit_or}
 use Rattle.domain.specs.Masks.{In, Within}
-use Rattle.domain.specs.Groups.{XGroup, TGroup, Shared, Rest, Paired, Closure, one, more, Extended, alone, joined}
+use Rattle.domain.specs.Groups.{Side, Shared, Apart, Paired, Closure, one, more, Extended, alone, joined}
 use Rattle.domain.specs.Coverage.{Covers}
 use Rattle.domain.specs.Binding.{Made, NewGroup, rest, made}
 use Rattle.domain.specs.declared.case.Case.{Case}
 use Rattle.domain.specs.declared.case.Case.TheVariants.{Free, BothLinear, PositionLinear, TermLinear, Neither}
 use Rattle.domain.proofs.Bits.{in_left, in_right, within_le, union_within, same_mask}
-use Rattle.domain.proofs.Hull.{pair_left, pair_right}
-use Rattle.coverage.proofs.Decided.{dec_in, dec_within, dec_meets}
-use Rattle.coverage.proofs.Searching.{dec_map, dec_not, dec_both, dec_either, dec_some, dec_each}
+use Rattle.domain.proofs.Hull.{Inside, closure_some, pair_left, pair_right}
+use Rattle.coverage.proofs.Searching.{dec_not, dec_both, dec_either, dec_some, dec_each, dec_in, dec_within, dec_meets}
 use Rattle.coverage.proofs.Collecting.{in_lt}
-use Rattle.coverage.proofs.BindCover.{UnionOf, closure_union}
+use Rattle.coverage.proofs.CoreLeast.{dec_holding}
+use Rattle.coverage.proofs.BindCover.{closure_covers}
 
 -- ---- pairs
 
-pub dec_paired : {A B : ℕ → Type 0} → ((g : ℕ) → Dec (A g)) → ((g : ℕ) → Dec (B g)) → (u : ℕ) → Dec (Paired A B u)
+dec_paired : {A B : ℕ → Type 0} → ((g : ℕ) → Dec (A g)) → ((g : ℕ) → Dec (B g)) → (u : ℕ) → Dec (Paired A B u)
 dec_paired {A} {B} da db u =
-    dec_map
+    map_dec
     (λ r. record { left = r.0; right = r.1.0; in_left = r.1.1.0; in_right = r.1.1.1.0; whole = r.1.1.1.1 })
     (λ p. (p.left, (p.right, (p.in_left, (p.in_right, p.whole)))))
     (dec_some (λ a. dec_some (dec_two a) (suc u) (λ b r. omega (arith, within_le (pair_right (two a b r))))) (suc u)
@@ -33,19 +33,25 @@ dec_paired {A} {B} da db u =
 
 -- ---- unions
 
+-- some group of A lies inside u, and such groups hold all of u
+record UnionOf (A : ℕ → Type 0) (u : ℕ) : Type 0 where
+  some : Inside A u
+  each : (p : ℕ) → In p u → Covers A u p p
+
+closure_union : {A : ℕ → Type 0} {u : ℕ} → Closure A u → UnionOf A u
+closure_union k = record { some = closure_some k; each = λ p i. closure_covers k i }
+
 module _ {A : ℕ → Type 0} (dec : (g : ℕ) → Dec (A g)) where
-  pub dec_covers : (w p q : ℕ) → Dec (Covers A w p q)
+  dec_covers : (w p q : ℕ) → Dec (Covers A w p q)
   dec_covers w p q =
-      dec_map
-      (λ r. record { group = r.0; told = r.1.0; left = r.1.1.0; right = r.1.1.1.0; inside = r.1.1.1.1 })
-      (λ c. (c.group, (c.told, (c.left, (c.right, c.inside)))))
-      (dec_some (λ g. dec_both (dec g) (dec_both (dec_in p g) (dec_both (dec_in q g) (dec_within g w)))) (suc w)
-      (λ g r. omega (arith, within_le r.1.1.1)))
+      map_dec (λ r. let h = r.1.0 in record { group = r.0; told = h.told; left = h.left; right = h.right; inside = r.1.1 })
+      (λ c. (c.group, (record { told = c.told; left = c.left; right = c.right }, c.inside)))
+      (dec_some (λ g. dec_both (dec_holding dec p q g) (dec_within g w)) (suc w) (λ g r. omega (arith, within_le r.1)))
 
   dec_union : (u : ℕ) → Dec (UnionOf A u)
   dec_union u =
-      dec_map (λ r. record { some = r.0.0; some_told = r.0.1.0; some_inside = r.0.1.1; each = r.1 })
-      (λ n. ((n.some, (n.some_told, n.some_inside)), n.each))
+      map_dec (λ r. record { some = record { group = r.0.0; told = r.0.1.0; inside = r.0.1.1 }; each = r.1 })
+      (λ n. ((n.some.group, (n.some.told, n.some.inside)), n.each))
       (dec_both (dec_some (λ g. dec_both (dec g) (dec_within g u)) (suc u) (λ g r. omega (arith, within_le r.1)))
       (dec_each (λ p. dec_in p u) (λ p. dec_covers u p p) u (λ p i. in_lt i)))
 
@@ -58,7 +64,7 @@ record Gathered (A : ℕ → Type 0) (u k : ℕ) : Type 0 where
 
 gather : {A : ℕ → Type 0} {u : ℕ} → UnionOf A u → (k : ℕ) → Gathered A u k
 gather n zero =
-    record { mask = n.some; closed = one n.some_told; inside = n.some_inside; holds = λ p h i. absurd (omega arith) }
+    record { mask = n.some.group; closed = one n.some.told; inside = n.some.inside; holds = λ p h i. absurd (omega arith) }
 gather {A} {u} n (suc k) =
     let r = gather n k in
     elim (dec_in k u) [
@@ -79,48 +85,47 @@ gather {A} {u} n (suc k) =
           }
     ]
 
-pub union_closure : {A : ℕ → Type 0} {u : ℕ} → UnionOf A u → Closure A u
+union_closure : {A : ℕ → Type 0} {u : ℕ} → UnionOf A u → Closure A u
 union_closure {A} {u} n =
     let r = gather n u in
     rw (← same_mask r.inside (record { each = λ p i. r.holds p (in_lt i) i })) r.closed
 
-pub dec_closure : {A : ℕ → Type 0} → ((g : ℕ) → Dec (A g)) → (u : ℕ) → Dec (Closure A u)
-dec_closure dec u = dec_map union_closure closure_union (dec_union dec u)
+dec_closure : {A : ℕ → Type 0} → ((g : ℕ) → Dec (A g)) → (u : ℕ) → Dec (Closure A u)
+dec_closure dec u = map_dec union_closure closure_union (dec_union dec u)
 
-pub dec_extended : {A S : ℕ → Type 0} → ((g : ℕ) → Dec (A g)) → ((g : ℕ) → Dec (S g)) → (u : ℕ) → Dec (Extended A S u)
+dec_extended : {A S : ℕ → Type 0} → ((g : ℕ) → Dec (A g)) → ((g : ℕ) → Dec (S g)) → (u : ℕ) → Dec (Extended A S u)
 dec_extended da ds u =
-    dec_map (λ s. elim s [ inl a ↦ alone a | inr p ↦ joined p ]) (λ e. elim e [ alone a ↦ inl a | joined p ↦ inr p ])
+    map_dec (λ s. elim s [ inl a ↦ alone a | inr p ↦ joined p ]) (λ e. elim e [ alone a ↦ inl a | joined p ↦ inr p ])
     (dec_either (da u) (dec_paired da (dec_closure ds) u))
 
 -- ---- the groups of a bind
 
-module _ {G : ℕ → Type 0} (dec : (g : ℕ) → Dec (G g)) (x v : ℕ) where
-  pub dec_x_group : (g : ℕ) → Dec (XGroup G x g)
-  dec_x_group g =
-      dec_map (λ r. record { group = r.0; holds = r.1 }) (λ m. (m.group, m.holds)) (dec_both (dec g) (dec_in x g))
-
-  pub dec_t_group : (g : ℕ) → Dec (TGroup G v g)
-  dec_t_group g =
-      dec_map (λ r. record { group = r.0; meets = r.1 }) (λ m. (m.group, m.meets)) (dec_both (dec g) (dec_meets g v))
-
-  pub dec_shared : (g : ℕ) → Dec (Shared G x v g)
+module _ {G : ℕ → Type 0} (dec : (g : ℕ) → Dec (G g)) (a b : ℕ) where
+  pub dec_shared : (g : ℕ) → Dec (Shared G a b g)
   dec_shared g =
-      dec_map (λ r. record { group = r.0; holds = r.1.0; meets = r.1.1 }) (λ m. (m.group, (m.holds, m.meets)))
-      (dec_both (dec g) (dec_both (dec_in x g) (dec_meets g v)))
+      map_dec (λ r. record { group = r.0; left = r.1.0; right = r.1.1 }) (λ m. (m.group, (m.left, m.right)))
+      (dec_both (dec g) (dec_both (dec_meets g a) (dec_meets g b)))
 
-  pub dec_rest : (g : ℕ) → Dec (Rest G x v g)
-  dec_rest g =
-      dec_map (λ r. record { group = r.0; without = r.1.0; apart = r.1.1 }) (λ m. (m.group, (m.without, m.apart)))
-      (dec_both (dec g) (dec_both (dec_not (dec_in x g)) (dec_not (dec_meets g v))))
+  dec_apart : (g : ℕ) → Dec (Apart G a b g)
+  dec_apart g =
+      map_dec (λ r. record { group = r.0; left = r.1.0; right = r.1.1 }) (λ m. (m.group, (m.left, m.right)))
+      (dec_both (dec g) (dec_both (dec_not (dec_meets g a)) (dec_not (dec_meets g b))))
 
-  pub dec_made : (c : Case) (u : ℕ) → Dec (Made G x v c u)
-  dec_made Free u = dec_paired dec_x_group dec_t_group u
-  dec_made BothLinear u = dec_paired (dec_extended dec_x_group dec_shared) (dec_extended dec_t_group dec_shared) u
-  dec_made PositionLinear u = dec_paired (dec_closure dec_x_group) (dec_extended dec_t_group dec_shared) u
-  dec_made TermLinear u = dec_paired (dec_extended dec_x_group dec_shared) (dec_closure dec_t_group) u
-  dec_made Neither u = dec_paired (dec_closure dec_x_group) (dec_closure dec_t_group) u
+module _ {G : ℕ → Type 0} (dec : (g : ℕ) → Dec (G g)) (a b : ℕ) where
+  dec_closed : (m u : ℕ) → Dec (Closure (Side G m) u)
+  dec_closed m u = dec_closure (dec_shared dec m m) u
 
-  pub dec_new_group : (c : Case) (u : ℕ) → Dec (NewGroup G x v c u)
+  dec_joined : (m u : ℕ) → Dec (Extended (Side G m) (Shared G a b) u)
+  dec_joined m u = dec_extended (dec_shared dec m m) (dec_shared dec a b) u
+
+  dec_made : (c : Case) (u : ℕ) → Dec (Made G a b c u)
+  dec_made Free u = dec_paired (dec_shared dec a a) (dec_shared dec b b) u
+  dec_made BothLinear u = dec_paired (dec_joined a) (dec_joined b) u
+  dec_made PositionLinear u = dec_paired (dec_closed a) (dec_joined b) u
+  dec_made TermLinear u = dec_paired (dec_joined a) (dec_closed b) u
+  dec_made Neither u = dec_paired (dec_closed a) (dec_closed b) u
+
+  pub dec_new_group : (c : Case) (u : ℕ) → Dec (NewGroup G a b c u)
   dec_new_group c u =
-      dec_map (λ s. elim s [ inl r ↦ rest r | inr m ↦ made m ]) (λ n. elim n [ rest r ↦ inl r | made m ↦ inr m ])
-      (dec_either (dec_rest u) (dec_made c u))
+      map_dec (λ s. elim s [ inl r ↦ rest r | inr m ↦ made m ]) (λ n. elim n [ rest r ↦ inl r | made m ↦ inr m ])
+      (dec_either (dec_apart dec a b u) (dec_made c u))

@@ -1,38 +1,32 @@
 -- Whether a group is a core group can be decided, so the core has a list.
 use Rattle.std.proofs.Common.{ℕ, suc, ◌^◌, List, arith}
-use native.Mathlib.Decide.{ℕ_discrete}
+use native.Mathlib.Decide.{ℕ_discrete, map_dec}
 use Rattle.domain.specs.Told.{Told, Group, Lawful}
 use Rattle.domain.specs.Coverage.{Core, CoreList}
 use Rattle.domain.proofs.Bits.{within_le}
-use Rattle.coverage.specs.Walks.{Holding, Inside, OpenPair}
-use Rattle.coverage.proofs.Decided.{dec_in, dec_within}
-use Rattle.coverage.proofs.Searching.{dec_map, dec_not, dec_both, dec_some}
+use Rattle.coverage.specs.Walks.{CoveredInside, OpenPair}
+use Rattle.coverage.proofs.Searching.{dec_not, dec_both, dec_some, dec_in, dec_within}
 use Rattle.coverage.proofs.Collecting.{in_lt, numbers}
 use Rattle.coverage.proofs.Pairs.{open_core, core_open}
-use Rattle.coverage.proofs.CoreLeast.{dec_group}
+use Rattle.coverage.proofs.CoreLeast.{dec_holding, dec_group}
 
 module _ {G : ℕ → Type 0} (dec : (g : ℕ) → Dec (G g)) where
-  pub dec_holding : (p q g : ℕ) → Dec (Holding G p q g)
-  dec_holding p q g =
-      dec_map (λ r. record { told = r.0; left = r.1.0; right = r.1.1 }) (λ h. (h.told, (h.left, h.right)))
-      (dec_both (dec g) (dec_both (dec_in p g) (dec_in q g)))
-
-  dec_inside : (g p q : ℕ) → Dec (Inside G g p q)
+  dec_inside : (g p q : ℕ) → Dec (CoveredInside G g p q)
   dec_inside g p q =
-      dec_map (λ r. record { group = r.0; holding = r.1.0; inside = r.1.1.0; smaller = r.1.1.1 })
+      map_dec (λ r. record { group = r.0; holding = r.1.0; inside = r.1.1.0; smaller = r.1.1.1 })
       (λ i. (i.group, (i.holding, (i.inside, i.smaller))))
-      (dec_some (λ h. dec_both (dec_holding p q h) (dec_both (dec_within h g) (dec_not (ℕ_discrete h g)))) (suc g)
+      (dec_some (λ h. dec_both (dec_holding dec p q h) (dec_both (dec_within h g) (dec_not (ℕ_discrete h g)))) (suc g)
       (λ h r. omega (arith, within_le r.1.0)))
 
   dec_open : (g p q : ℕ) → Dec (OpenPair G g p q)
   dec_open g p q =
-      dec_map (λ r. record { left = r.0; right = r.1.0; uncovered = r.1.1 })
+      map_dec (λ r. record { left = r.0; right = r.1.0; uncovered = r.1.1 })
       (λ o. (o.left, (o.right, o.uncovered)))
       (dec_both (dec_in p g) (dec_both (dec_in q g) (dec_not (dec_inside g p q))))
 
   pub dec_core : (g : ℕ) → Dec (Core G g)
   dec_core g =
-      dec_map (λ r. open_core r.0 r.1.1.1) (λ c. (c.told, (c.p, (c.q, core_open c))))
+      map_dec (λ r. open_core r.0 r.1.1.1) (λ c. (c.told, (c.p, (c.q, core_open c))))
       (dec_both (dec g)
       (dec_some (λ p. dec_some (dec_open g p) g (λ q o. in_lt o.right)) g (λ p r. in_lt r.1.left)))
 

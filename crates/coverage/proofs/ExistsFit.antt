@@ -1,12 +1,11 @@
 -- Whether the core fits a capacity can be decided: its list is counted.
 use Rattle.std.proofs.Common.{ℕ, ◌<◌, ◌⊎◌, List, length, refl, inl, inr, arith}
-use native.Mathlib.Decide.{dec_le}
+use native.Mathlib.Decide.{dec_le, map_dec}
 use Rattle.domain.specs.Told.{Told, Group, Lawful}
 use Rattle.domain.specs.Lists.{Above, none, next}
 use Rattle.domain.specs.Coverage.{Listed, CoreFits, CoreList}
 use Rattle.coverage.specs.Counts as counts
 use Rattle.coverage.specs.Counts.{Distinct, CoreCount}
-use Rattle.coverage.proofs.Searching.{dec_map}
 use Rattle.coverage.proofs.Counting.{listed_cases, empty_listed, count_fits, fits_count}
 use Rattle.coverage.proofs.ExistsCore.{core_listed}
 
@@ -28,7 +27,7 @@ pub dec_core_fits : {d : Told} → Lawful d → (k : ℕ) → Dec (CoreFits (Gro
 dec_core_fits {d} l k =
     let r = core_listed d l in
     let c = list_counted r.1 in
-    dec_map (λ h. count_fits c h) (λ f. fits_count c f) (dec_le (length r.0) k)
+    map_dec (λ h. count_fits c h) (λ f. fits_count c f) (dec_le (length r.0) k)
 
 pub fits_or_not : (d : Told) (k : ℕ) → Lawful d → CoreFits (Group d) k ⊎ (CoreFits (Group d) k → ⊥)
 fits_or_not d k l = elim (dec_core_fits l k) [ yes f ↦ inl f | no n ↦ inr n ]

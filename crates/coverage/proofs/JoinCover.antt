@@ -1,11 +1,11 @@
 -- What a join covers, and that it takes alike descriptions to alike ones.
 use Rattle.std.proofs.Common.{ℕ, ◌⊎◌, List, sym, ◌∙◌, inl, inr}
-use Rattle.domain.specs.Masks.{Within}
 use Rattle.domain.specs.Told.{Told, Group}
 use Rattle.domain.specs.Coverage.{Covers, Listed, Alike}
 use Rattle.domain.specs.Joining.{Joined}
-use Rattle.domain.proofs.Bits.{same_mask}
-use Rattle.coverage.proofs.Cover.{covers_more, alike_turned}
+use Rattle.domain.specs.declared.listing.Listing.{Listing}
+use Rattle.coverage.proofs.Cover.{covers_more, alike_turned, PartOf, both_alike}
+use Rattle.coverage.proofs.Places.{free_kept, linear_kept}
 
 -- the union of two sets covers what one of them covers
 union_cover : {G A B : ℕ → Type 0} {w p q : ℕ} → ((g : ℕ) → G g → A g ⊎ B g) → Covers G w p q → Covers A w p q ⊎ Covers B w p q
@@ -15,32 +15,22 @@ union_cover f k =
       | inr b ↦ inr (record { group = k.group; told = b; left = k.left; right = k.right; inside = k.inside })
     ]
 
-pub join_cover_to : {d e : Told} {free linear : ℕ} {hs : List ℕ} {w p q : ℕ} → Joined d free linear hs e → Covers (Group e) w p q → Covers (Group d) w p q ⊎ Covers (λ g. Listed g hs) w p q
-join_cover_to j k = union_cover j.groups_only k
+module _ {d e : Told} {other : Listing (List ℕ)} (j : Joined d other e) {w p q : ℕ} where
+  pub join_cover_to : Covers (Group e) w p q → Covers (Group d) w p q ⊎ Covers (λ g. Listed g other.groups) w p q
+  join_cover_to k = union_cover j.groups_only k
 
-pub join_cover_from : {d e : Told} {free linear : ℕ} {hs : List ℕ} {w p q : ℕ} → Joined d free linear hs e → Covers (Group d) w p q ⊎ Covers (λ g. Listed g hs) w p q → Covers (Group e) w p q
-join_cover_from j (inl k) = covers_more (λ g t. j.groups_made g (inl t)) k
-join_cover_from j (inr k) = covers_more (λ g t. j.groups_made g (inr t)) k
+  pub join_cover_from : Covers (Group d) w p q ⊎ Covers (λ g. Listed g other.groups) w p q → Covers (Group e) w p q
+  join_cover_from (inl k) = covers_more (λ g t. j.groups_made g (inl t)) k
+  join_cover_from (inr k) = covers_more (λ g t. j.groups_made g (inr t)) k
 
-module _ {d d' e e' : Told} {free linear : ℕ} {hs : List ℕ} (a : Alike d d') (u : Joined d free linear hs e) (v : Joined d' free linear hs e') where
-  joined_cover : (w p q : ℕ) → Covers (Group e) w p q → Covers (Group e') w p q
-  joined_cover w p q k =
-      join_cover_from v (elim (join_cover_to u k) [ inl c ↦ inl (a.cover.to w p q c) | inr c ↦ inr c ])
-
-  joined_free : Within e.free e'.free
-  joined_free =
-      record { each = λ p i. let h = u.free_only p i in v.free_common p (rw (← a.free) h.0) h.1 }
-
-  joined_linear : Within e.linear e'.linear
-  joined_linear =
-      record { each = λ p i. let h = u.linear_only p i in v.linear_common p (rw (← a.linear) h.0) h.1 }
-
-pub join_alike : {d d' e e' : Told} {free linear : ℕ} {hs : List ℕ} → Alike d d' → Joined d free linear hs e → Joined d' free linear hs e' → Alike e e'
-join_alike a u v =
-    let b = alike_turned a in
+joined_part : {d d' e e' : Told} {other : Listing (List ℕ)} → Alike d d' → Joined d other e → Joined d' other e' → PartOf e e'
+joined_part a u v =
     record {
       positions = u.positions ∙ (a.positions ∙ sym v.positions);
-      free = same_mask (joined_free a u v) (joined_free b v u);
-      linear = same_mask (joined_linear a u v) (joined_linear b v u);
-      cover = record { to = joined_cover a u v; from = joined_cover b v u };
+      free = record { each = λ p i. let h = u.free_only p i in v.free_common p (free_kept a h.0) h.1 };
+      linear = record { each = λ p i. let h = u.linear_only p i in v.linear_common p (linear_kept a h.0) h.1 };
+      cover = λ w p q k. join_cover_from v (elim (join_cover_to u k) [ inl c ↦ inl (a.cover.to w p q c) | inr c ↦ inr c ]);
     }
+
+pub join_alike : {d d' e e' : Told} {other : Listing (List ℕ)} → Alike d d' → Joined d other e → Joined d' other e' → Alike e e'
+join_alike a u v = both_alike (joined_part a u v) (joined_part (alike_turned a) v u)

@@ -1,4 +1,3 @@
-pub mod Decided
 pub mod Searching
 pub mod Cover
 pub mod CoreLeast
@@ -7,9 +6,7 @@ pub mod Places
 pub mod BindAlike
 pub mod JoinCover
 pub mod ForgetCover
-pub mod Kept
 pub mod Submasks
-pub mod Verdicts
 pub mod Pairs
 pub mod Counting
 pub mod Collecting
@@ -18,6 +15,6 @@ pub mod ExistsSteps
 pub mod DecidedGroups
 pub mod DecidedTerms
 pub mod ExistsBind
-pub mod OneResult
 pub mod ExistsFit
 pub mod ListedCores
+pub mod ChangeLaws

@@ -1,14 +1,14 @@
--- Writing the core groups into a list, in ascending order.
+-- The core groups of a table, met in ascending order: counted, and written into a list.
 use Rattle.std.proofs.Common.{◌≡◌, ℕ, ◌+◌, ◌-◌, ◌<◌, ◌≤◌, ◌⊎◌, List, [], ◌∷◌, ◌++◌, length, take, drop, set, Some, None, Ok, Option, sym, refl, ap, ◌∙◌, subst, inl, inr, arith, length-append, length-drop, take_at}
 use native.Mathlib.Decide.{ℕ_discrete}
 use Rattle.std.specs.List.{AllByRecursion}
-use Rattle.domain.specs.Coverage.{Core, CoreFits, Listed, here, there}
+use Rattle.domain.specs.Coverage.{Core, CoreFits, CoreList, Listed, here, there}
 use Rattle.domain.proofs.Written.{written_more}
 use Rattle.domain.specs.declared.refusal.Refusal.{Refusal}
 use Rattle.domain.specs.Lists.{Above, none, next}
 use Rattle.coverage.proofs.Counting.{once_le, empty_listed}
-use Rattle.coverage.proofs.ExistsFit.{above_distinct}
-use Rattle.coverage.proofs.Pairs.{core_as}
+use Rattle.coverage.proofs.ExistsFit.{above_distinct, list_counted}
+use Rattle.coverage.specs.Counts.{CoreCount}
 use Rattle.coverage.specs.Listing.{FillsCore, WritesOr}
 
 listed_front : {g : ℕ} {gs : List ℕ} (h : ℕ) → Listed g gs → Listed g (gs ++ h ∷ [])
@@ -29,66 +29,102 @@ above_push : {last g : ℕ} {gs : List ℕ} → Above last gs → last < g → (
 above_push none low below = next low none
 above_push (next {g = k} h a) low below = next h (above_push a (below k here) (λ m l. below m (there l)))
 
--- the core groups below g stand at the start of the list
-pub record ListedTo (G : ℕ → Type 0) (start : List ℕ) (g used : ℕ) (list : List ℕ) : Type 0 where
-  pub groups : List ℕ
-  pub counted : length groups ≡ used
-  pub above : Above 0 groups
-  pub only : (h : ℕ) → Listed h groups → Core G h × (h < g)
-  pub all : (h : ℕ) → Core G h → h < g → Listed h groups
-  pub at_start : list ≡ groups ++ drop used start
+-- ---- the core groups below g
 
-pub list_start : {G : ℕ → Type 0} (start : List ℕ) → (Core G 0 → ⊥) → ListedTo G start 1 0 start
-list_start {G} start no_zero =
+-- they are listed in ascending order
+pub record CoresTo (G : ℕ → Type 0) (g : ℕ) (gs : List ℕ) : Type 0 where
+  pub above : Above 0 gs
+  pub only : (h : ℕ) → Listed h gs → Core G h × (h < g)
+  pub all : (h : ℕ) → Core G h → h < g → Listed h gs
+
+cores_start : {G : ℕ → Type 0} → (Core G 0 → ⊥) → CoresTo G 1 []
+cores_start {G} no_zero =
     record {
-      groups = [];
-      counted = refl;
       above = none;
       only = λ h l. empty_listed l;
       all = λ h c b. let z : h ≡ 0 = omega arith in absurd (no_zero (subst (Core G) z c));
-      at_start = refl;
     }
 
-pub list_skip : {G : ℕ → Type 0} {start list : List ℕ} {g used : ℕ} → (Core G g → ⊥) → ListedTo G start g used list → ListedTo G start (g + 1) used list
-list_skip {G} {start} {list} {g} not_core w =
+cores_skip : {G : ℕ → Type 0} {g : ℕ} {gs : List ℕ} → (Core G g → ⊥) → CoresTo G g gs → CoresTo G (g + 1) gs
+cores_skip {G} {g} not_core w =
     record {
-      groups = w.groups;
-      counted = w.counted;
       above = w.above;
       only = λ h l. let o = w.only h l in (o.0, omega (arith, o.1));
       all = λ h c b. elim (ℕ_discrete h g) [ yes e ↦ absurd (not_core (subst (Core G) e c)) | no ne ↦ w.all h c (omega arith) ];
-      at_start = w.at_start;
     }
 
-pushed_core : {G : ℕ → Type 0} {start list : List ℕ} {g used : ℕ} → Core G g → (w : ListedTo G start g used list)
-    → (h : ℕ) → Listed h (w.groups ++ g ∷ []) → Core G h × (h < g + 1)
-pushed_core {G} {g = g} c w h l =
-    elim (listed_push w.groups l) [
-      | inl m ↦ (let o = w.only h m in (o.0, omega (arith, o.1)))
-      | inr e ↦ (subst (Core G) (sym e) c, omega arith)
-    ]
+cores_one : {G : ℕ → Type 0} {g : ℕ} {gs : List ℕ} → 0 < g → Core G g → CoresTo G g gs → CoresTo G (g + 1) (gs ++ g ∷ [])
+cores_one {G} {g} {gs} pos c w =
+    record {
+      above = above_push w.above pos (λ h l. (w.only h l).1);
+      only = λ h l.
+          elim (listed_push gs l) [
+            | inl m ↦ (let o = w.only h m in (o.0, omega (arith, o.1)))
+            | inr e ↦ (subst (Core G) (sym e) c, omega arith)
+          ];
+      all = λ h k b.
+          elim (ℕ_discrete h g) [
+            | yes e ↦ subst (λ (x : ℕ). Listed x (gs ++ g ∷ [])) (sym e) (listed_last gs)
+            | no ne ↦ listed_front g (w.all h k (omega arith))
+          ];
+    }
 
--- there is room for one more
-pub list_room : {G : ℕ → Type 0} {start list : List ℕ} {g used k : ℕ} → 0 < g → Core G g → ListedTo G start g used list → CoreFits G k → used < k
-list_room {G} {g = g} {used = used} pos c w fits =
-    let long : length (w.groups ++ g ∷ []) ≤ length fits.groups =
-    once_le (above_distinct (above_push w.above pos (λ h l. (w.only h l).1))) fits.groups (λ h l. fits.holds h (pushed_core c w h l).0) in
-    let count : length (w.groups ++ g ∷ []) ≡ length w.groups + 1 = length-append w.groups (g ∷ []) in
-    omega (arith, long, count, w.counted, fits.short)
+cores_end : {G : ℕ → Type 0} {g : ℕ} {gs : List ℕ} → ((h : ℕ) → Core G h → h < g) → CoresTo G g gs → CoreList G gs
+cores_end below w =
+    record { only = λ h l. (w.only h l).0; all = λ h c. w.all h c (below h c); ascending = w.above }
 
-pub list_one : {G : ℕ → Type 0} {start list : List ℕ} {g used : ℕ} → 0 < g → used < length start → Core G g → ListedTo G start g used list
-    → ListedTo G start (g + 1) (used + 1) (set list used g)
-list_one {G} {start} {list} {g} {used} pos room c w =
+-- they are k
+pub record CountedTo (G : ℕ → Type 0) (g k : ℕ) : Type 0 where
+  pub groups : List ℕ
+  pub counted : length groups ≡ k
+  pub cores : CoresTo G g groups
+
+pub count_start : {G : ℕ → Type 0} → (Core G 0 → ⊥) → CountedTo G 1 0
+count_start no_zero = record { groups = []; counted = refl; cores = cores_start no_zero }
+
+pub count_skip : {G : ℕ → Type 0} {g k : ℕ} → (Core G g → ⊥) → CountedTo G g k → CountedTo G (g + 1) k
+count_skip not_core w = record { groups = w.groups; counted = w.counted; cores = cores_skip not_core w.cores }
+
+pub count_one : {G : ℕ → Type 0} {g k : ℕ} → 0 < g → Core G g → CountedTo G g k → CountedTo G (g + 1) (k + 1)
+count_one {g = g} pos c w =
     record {
       groups = w.groups ++ g ∷ [];
       counted = length-append w.groups (g ∷ []) ∙ ap (λ (k : ℕ). k + 1) w.counted;
-      above = above_push w.above pos (λ h l. (w.only h l).1);
-      only = pushed_core c w;
-      all = λ h k b.
-          elim (ℕ_discrete h g) [
-            | yes e ↦ subst (λ (x : ℕ). Listed x (w.groups ++ g ∷ [])) (sym e) (listed_last w.groups)
-            | no ne ↦ listed_front g (w.all h k (omega arith))
-          ];
+      cores = cores_one pos c w.cores;
+    }
+
+pub count_end : {G : ℕ → Type 0} {g k : ℕ} → ((h : ℕ) → Core G h → h < g) → CountedTo G g k → CoreCount G k
+count_end {G} below w = subst (CoreCount G) w.counted (list_counted (cores_end below w.cores))
+
+-- they stand at the start of the list
+pub record ListedTo (G : ℕ → Type 0) (start : List ℕ) (g used : ℕ) (list : List ℕ) : Type 0 where
+  pub groups : List ℕ
+  pub counted : length groups ≡ used
+  pub cores : CoresTo G g groups
+  pub at_start : list ≡ groups ++ drop used start
+
+pub list_start : {G : ℕ → Type 0} (start : List ℕ) → (Core G 0 → ⊥) → ListedTo G start 1 0 start
+list_start start no_zero = record { groups = []; counted = refl; cores = cores_start no_zero; at_start = refl }
+
+pub list_skip : {G : ℕ → Type 0} {start list : List ℕ} {g used : ℕ} → (Core G g → ⊥) → ListedTo G start g used list → ListedTo G start (g + 1) used list
+list_skip not_core w =
+    record { groups = w.groups; counted = w.counted; cores = cores_skip not_core w.cores; at_start = w.at_start }
+
+-- there is room for one more
+pub list_room : {G : ℕ → Type 0} {start list : List ℕ} {g used k : ℕ} → 0 < g → Core G g → ListedTo G start g used list → CoreFits G k → used < k
+list_room {g = g} pos c w fits =
+    let more = cores_one pos c w.cores in
+    let long : length (w.groups ++ g ∷ []) ≤ length fits.groups =
+    once_le (above_distinct more.above) fits.groups (λ h l. fits.holds h (more.only h l).0) in
+    omega (arith, long, length-append w.groups (g ∷ []), w.counted, fits.short)
+
+pub list_one : {G : ℕ → Type 0} {start list : List ℕ} {g used : ℕ} → 0 < g → used < length start → Core G g → ListedTo G start g used list
+    → ListedTo G start (g + 1) (used + 1) (set list used g)
+list_one {start = start} {g = g} {used = used} pos room c w =
+    record {
+      groups = w.groups ++ g ∷ [];
+      counted = length-append w.groups (g ∷ []) ∙ ap (λ (k : ℕ). k + 1) w.counted;
+      cores = cores_one pos c w.cores;
       at_start = ap (λ (l : List ℕ). set l used g) w.at_start ∙ written_more w.groups start used g w.counted room;
     }
 
@@ -105,16 +141,11 @@ all_listed P (g ∷ gs) each = (each g here, all_listed P gs (λ h l. each h (th
 pub list_below : {G : ℕ → Type 0} {start list : List ℕ} {g used : ℕ} → ListedTo G start g used list → AllByRecursion (λ (h : ℕ). h < g) (take used list)
 list_below {start = start} {g = g} {used = used} w =
     subst (AllByRecursion (λ (h : ℕ). h < g)) (sym (ap (take used) w.at_start ∙ take_at w.groups (drop used start) used w.counted))
-    (all_listed (λ h. h < g) w.groups (λ h l. (w.only h l).1))
+    (all_listed (λ h. h < g) w.groups (λ h l. (w.cores.only h l).1))
 
 pub list_end : {G : ℕ → Type 0} {start list : List ℕ} {g used : ℕ} → ((h : ℕ) → Core G h → h < g) → ListedTo G start g used list → FillsCore G start list used
 list_end below w =
-    record {
-      groups = w.groups;
-      core = record { only = λ h l. (w.only h l).0; all = λ h c. w.all h c (below h c); ascending = w.above };
-      counted = sym w.counted;
-      at_start = w.at_start;
-    }
+    record { groups = w.groups; core = cores_end below w.cores; counted = sym w.counted; at_start = w.at_start }
 
 -- the list is long enough for what was written at its start
 pub fills_inside : {G : ℕ → Type 0} (list list' : List ℕ) (count : ℕ) → FillsCore G list list' count → length list' ≡ length list → count ≤ length list
@@ -133,18 +164,3 @@ fills_given (Some e) G list list' k h = absurd (let q = h.0 in cc)
 pub fills_over : {G : ℕ → Type 0} {slots slots' list list' : List ℕ} {used k : ℕ} → slots ≡ list → slots' ≡ list' → k ≡ used
     → FillsCore G slots slots' used → FillsCore G list list' k
 fills_over p q r w = rw (p, q, ← r) at w
-
--- a set with the same groups is filled in alike
-pub fills_as : {G H : ℕ → Type 0} {list list' : List ℕ} {k : ℕ} → ((h : ℕ) → G h → H h) → ((h : ℕ) → H h → G h)
-    → FillsCore G list list' k → FillsCore H list list' k
-fills_as to from w =
-    record {
-      groups = w.groups;
-      core = record {
-        only = λ g l. core_as to from (w.core.only g l);
-        all = λ g c. w.core.all g (core_as from to c);
-        ascending = w.core.ascending;
-      };
-      counted = w.counted;
-      at_start = w.at_start;
-    }

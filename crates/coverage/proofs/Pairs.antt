@@ -56,17 +56,6 @@ pub record Closed (G : ℕ → Type 0) (g p : ℕ) : Type 0 where
 pub record ClosedAt (G : ℕ → Type 0) (g p q : ℕ) : Type 0 where
   pub none : (b : ℕ) → b < q → p ≤ b → OpenPair G g p b → ⊥
 
-pub closed_at_start : {G : ℕ → Type 0} {g p : ℕ} → ClosedAt G g p p
-closed_at_start = record { none = λ b h k o. omega arith }
-
-pub closed_at_more : {G : ℕ → Type 0} {g p q : ℕ} → (OpenPair G g p q → ⊥) → ClosedAt G g p q → ClosedAt G g p (q + 1)
-closed_at_more {G} {g} {p} {q} n k =
-    record {
-      none =
-          λ b h m o.
-          elim (ℕ_discrete b q) [ yes e ↦ n (subst (OpenPair G g p) e o) | no ne ↦ k.none b (omega arith) m o ];
-    }
-
 pub closed_more : {G : ℕ → Type 0} {g p q : ℕ} → g < 2 ^ 16 → 16 ≤ q → ClosedAt G g p q → Closed G g p → Closed G g (p + 1)
 closed_more {G} {g} {p} {q} small past k all =
     record {
@@ -85,15 +74,3 @@ closed_core small past k c =
           k.none c.q c.p (omega (arith, in_below 16 c.right small)) (omega arith) (open_turned (core_open c))
       | no h ↦ k.none c.p c.q (omega (arith, in_below 16 c.left small)) (omega arith) (core_open c)
     ]
-
--- the core of a set with the same groups
-pub core_as : {G H : ℕ → Type 0} {g : ℕ} → ((h : ℕ) → G h → H h) → ((h : ℕ) → H h → G h) → Core G g → Core H g
-core_as {g = g} f b c =
-    record {
-      told = f g c.told;
-      p = c.p;
-      q = c.q;
-      left = c.left;
-      right = c.right;
-      uncovered = λ h t w ne i j. c.uncovered h (b h t) w ne i j;
-    }

@@ -1,12 +1,12 @@
 -- Decisions put together, and searches for a number below a bound.
-use Rattle.std.proofs.Common.{ℕ, zero, suc, ◌<◌, ◌⊎◌, subst, inl, inr, arith}
-use native.Mathlib.Decide.{ℕ_discrete}
+use Rattle.std.proofs.Common.{ℕ, zero, suc, ◌<◌, true, false, ◌⊎◌, Decides, refl, subst, inl, inr, arith}
+use Rattle.std.proofs.lemmas.Bool.{false≢true}
+use native.Mathlib.Decide.{dec_lt, ℕ_discrete}
+use lib.Bits.{bit_and, bit_or}
+use Rattle.domain.specs.Masks.{In, Within, Meets}
+use Rattle.domain.proofs.Bits.{in_or_not, in_left, in_right, within_and, and_within, meets_and, and_meets}
 
 -- ---- decisions
-
-pub dec_map : {P Q : Type 0} → (P → Q) → (Q → P) → Dec P → Dec Q
-dec_map f b (yes p) = yes (f p)
-dec_map f b (no n) = no (λ q. n (b q))
 
 pub dec_not : {P : Type 0} → Dec P → Dec (P → ⊥)
 dec_not (yes p) = no (λ n. n p)
@@ -30,6 +30,31 @@ dec_to (yes p) (no n) = no (λ f. n (f p))
 pub dec_stable : {P : Type 0} → Dec P → ((P → ⊥) → ⊥) → P
 dec_stable (yes p) f = p
 dec_stable (no n) f = absurd (f n)
+
+-- what a test answered
+
+pub decides_yes : {P : Type 0} → P → Decides true P
+decides_yes x = (λ e. x, λ y. refl)
+
+pub decides_no : {P : Type 0} → (P → ⊥) → Decides false P
+decides_no n = (λ e. absurd (false≢true e), λ x. absurd (n x))
+
+-- ---- masks
+
+pub dec_in : (p m : ℕ) → Dec (In p m)
+dec_in p m = elim (in_or_not p m) [ inl i ↦ yes i | inr n ↦ no n ]
+
+pub dec_within : (a b : ℕ) → Dec (Within a b)
+dec_within a b =
+    elim (ℕ_discrete (bit_and a b) a) [ yes e ↦ yes (and_within a b e) | no n ↦ no (λ w. n (within_and w)) ]
+
+pub dec_meets : (a b : ℕ) → Dec (Meets a b)
+dec_meets a b =
+    elim (dec_lt 0 (bit_and a b)) [ yes h ↦ yes (and_meets a b h) | no n ↦ no (λ m. n (meets_and m)) ]
+
+pub in_sum : {p : ℕ} (a b : ℕ) → In p a ⊎ In p b → In p (bit_or a b)
+in_sum a b (inl i) = in_left b i
+in_sum a b (inr i) = in_right a i
 
 -- ---- the least number of which a test holds
 

@@ -3,7 +3,7 @@ use Rattle.std.proofs.Common.{ℕ, ◌≢◌}
 use Rattle.domain.specs.Coverage.{Covers}
 use Rattle.domain.proofs.Bits.{in_pos}
 use Rattle.domain.proofs.Descending.{SomeSubset}
-use Rattle.coverage.specs.Walks.{Holding, Inside}
+use Rattle.coverage.specs.Walks.{Holding, CoveredInside}
 
 pub some_covers : {G : ℕ → Type 0} {w p q : ℕ} → SomeSubset (Holding G p q) w → Covers G w p q
 some_covers s =
@@ -23,11 +23,11 @@ pub record Smaller (G : ℕ → Type 0) (g p q h : ℕ) : Type 0 where
   pub other : h ≢ g
   pub holding : Holding G p q h
 
-pub some_inside : {G : ℕ → Type 0} {g p q : ℕ} → SomeSubset (Smaller G g p q) g → Inside G g p q
+pub some_inside : {G : ℕ → Type 0} {g p q : ℕ} → SomeSubset (Smaller G g p q) g → CoveredInside G g p q
 some_inside s =
     record { group = s.part; holding = s.holds.holding; inside = s.inside; smaller = s.holds.other }
 
-pub inside_some : {G : ℕ → Type 0} {g p q : ℕ} → Inside G g p q → SomeSubset (Smaller G g p q) g
+pub inside_some : {G : ℕ → Type 0} {g p q : ℕ} → CoveredInside G g p q → SomeSubset (Smaller G g p q) g
 inside_some i =
     record {
       part = i.group;

@@ -1,82 +1,76 @@
 -- How a bind acts on coverage. C w p q stands for "the pair p, q is covered in the window w" before the bind:
--- what is covered after it is said by C alone, whatever groups stand behind it.
+-- what is covered after it is said by C alone, whatever groups stand behind it. The two sides have the masks a and b.
 use Rattle.std.specs.Prelude.{ℕ, ◌^◌, ◌↔◌, bit_or}
-use Rattle.domain.specs.Masks.{In, Within, Meets}
+use Rattle.domain.specs.Masks.{In, Within, Meets, without}
 use Rattle.domain.specs.Told.{Told, Group}
-use Rattle.domain.specs.Coverage.{Covers, Alike}
+use Rattle.domain.specs.Coverage.{Covers}
 use Rattle.domain.specs.Binding.{NewGroup, Bound}
 use Rattle.domain.specs.declared.case.Case.{Case}
 use Rattle.domain.specs.declared.case.Case.TheVariants.{Free, BothLinear, PositionLinear, TermLinear, Neither}
 use Rattle.domain.specs.declared.term.Term.{Term}
-use Rattle.coverage.specs.Windows.{minus}
 
--- the pair is covered in a part of the window that has neither x nor a position of the term v
-pub record Apart (C : ℕ → ℕ → ℕ → Type 0) (x v w p q : ℕ) : Type 0 where
+-- the pair is covered in a part of the window that meets neither mask
+pub record CoversApart (C : ℕ → ℕ → ℕ → Type 0) (a b w p q : ℕ) : Type 0 where
   pub part : ℕ
   pub inside : Within part w
-  pub without : In x part → ⊥
-  pub apart : Meets part v → ⊥
+  pub left : Meets part a → ⊥
+  pub right : Meets part b → ⊥
   pub covered : C part p q
 
--- q is covered together with some position of the term
-pub record WithTerm (C : ℕ → ℕ → ℕ → Type 0) (v w q : ℕ) : Type 0 where
+-- q is covered together with some position of the side
+pub record WithSide (C : ℕ → ℕ → ℕ → Type 0) (a w q : ℕ) : Type 0 where
   pub place : ℕ
-  pub held : In place v
+  pub held : In place a
   pub covered : C w place q
 
--- some position of the term is covered
-pub record TermCovered (C : ℕ → ℕ → ℕ → Type 0) (v w : ℕ) : Type 0 where
+-- some position of the side is covered
+pub record SideCovered (C : ℕ → ℕ → ℕ → Type 0) (a w : ℕ) : Type 0 where
   pub place : ℕ
-  pub held : In place v
+  pub held : In place a
   pub covered : C w place place
 
--- the cases in which x-groups, or t-groups, are united among themselves
-abbrev pub UnitesX : Case → Type 0
-UnitesX Free = ⊥
-UnitesX BothLinear = ⊥
-UnitesX PositionLinear = Unit {0}
-UnitesX TermLinear = ⊥
-UnitesX Neither = Unit {0}
+-- the cases in which the groups of a side are united among themselves
+abbrev pub UnitesLeft : Case → Type 0
+UnitesLeft Free = ⊥
+UnitesLeft BothLinear = ⊥
+UnitesLeft PositionLinear = Unit {0}
+UnitesLeft TermLinear = ⊥
+UnitesLeft Neither = Unit {0}
 
-abbrev pub UnitesT : Case → Type 0
-UnitesT Free = ⊥
-UnitesT BothLinear = ⊥
-UnitesT PositionLinear = ⊥
-UnitesT TermLinear = Unit {0}
-UnitesT Neither = Unit {0}
+abbrev pub UnitesRight : Case → Type 0
+UnitesRight Free = ⊥
+UnitesRight BothLinear = ⊥
+UnitesRight PositionLinear = ⊥
+UnitesRight TermLinear = Unit {0}
+UnitesRight Neither = Unit {0}
 
--- how p and q come together where a group that holds x meets one that the term meets
-pub data Linked (C : ℕ → ℕ → ℕ → Type 0) (x v : ℕ) (c : Case) (w p q : ℕ) : Type 0 where
-  before : C w p q → Linked C x v c w p q
-  across : C w x p → WithTerm C v w q → Linked C x v c w p q
-  back : WithTerm C v w p → C w x q → Linked C x v c w p q
-  by_x : UnitesX c → C w x p → C w x q → Linked C x v c w p q
-  by_t : UnitesT c → WithTerm C v w p → WithTerm C v w q → Linked C x v c w p q
+-- how p and q come together where a group of one side meets one of the other
+pub data Linked (C : ℕ → ℕ → ℕ → Type 0) (a b : ℕ) (c : Case) (w p q : ℕ) : Type 0 where
+  before : C w p q → Linked C a b c w p q
+  across : WithSide C a w p → WithSide C b w q → Linked C a b c w p q
+  back : WithSide C b w p → WithSide C a w q → Linked C a b c w p q
+  by_left : UnitesLeft c → WithSide C a w p → WithSide C a w q → Linked C a b c w p q
+  by_right : UnitesRight c → WithSide C b w p → WithSide C b w q → Linked C a b c w p q
 
--- the pair is covered after a bind of x to a term that holds v
-pub data BindCovers (C : ℕ → ℕ → ℕ → Type 0) (x v : ℕ) (c : Case) (w p q : ℕ) : Type 0 where
-  untouched : Apart C x v w p q → BindCovers C x v c w p q
-  met : C w x x → TermCovered C v w → Linked C x v c w p q → BindCovers C x v c w p q
+-- the pair is covered after a bind of the two sides
+pub data BindCovers (C : ℕ → ℕ → ℕ → Type 0) (a b : ℕ) (c : Case) (w p q : ℕ) : Type 0 where
+  untouched : CoversApart C a b w p q → BindCovers C a b c w p q
+  met : SideCovered C a w → SideCovered C b w → Linked C a b c w p q → BindCovers C a b c w p q
 
 -- exactly those pairs are covered by the new groups
 abbrev pub BindCoverage : Type 0
 BindCoverage =
-    (d : Told) (x v : ℕ) (c : Case) (w p q : ℕ)
-    → Covers (NewGroup (Group d) x v c) w p q ↔ BindCovers (Covers (Group d)) x v c w p q
+    (d : Told) (a b : ℕ) (c : Case) (w p q : ℕ)
+    → Covers (NewGroup (Group d) a b c) w p q ↔ BindCovers (Covers (Group d)) a b c w p q
 
--- and so by what a bind makes
+-- and so by what a bind makes of a position and a term
 abbrev pub BoundCoverage : Type 0
 BoundCoverage =
     (d e : Told) (x : ℕ) (t : Term) (b : Bound d x t e) (w p q : ℕ)
-    → Covers (Group e) w p q ↔ BindCovers (Covers (Group d)) x t.held b.case w p q
+    → Covers (Group e) w p q ↔ BindCovers (Covers (Group d)) (2 ^ x) t.held b.case w p q
 
--- the part of a window that serves best is the window without x and the term
+-- the part of a window that serves best is the window without both masks
 abbrev pub RestWindow : Type 0
 RestWindow =
-    (d : Told) (x v w p q : ℕ)
-    → Apart (Covers (Group d)) x v w p q ↔ Covers (Group d) (minus w (bit_or (2 ^ x) v)) p q
-
--- a bind takes alike descriptions to alike descriptions
-abbrev pub BindKeepsAlike : Type 0
-BindKeepsAlike =
-    (d d' e e' : Told) (x : ℕ) (t : Term) → Alike d d' → Bound d x t e → Bound d' x t e' → Alike e e'
+    (d : Told) (a b w p q : ℕ)
+    → CoversApart (Covers (Group d)) a b w p q ↔ Covers (Group d) (without w (bit_or a b)) p q

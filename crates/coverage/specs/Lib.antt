@@ -1,11 +1,8 @@
-pub mod Windows
 pub mod Likeness
 pub mod CoreLaws
-pub mod BindLaws
-pub mod JoinLaws
-pub mod ForgetLaws
-pub mod Rules
-pub mod Walks
 pub mod Counts
-pub mod Existence
+pub mod BindLaws
+pub mod JoinForgetLaws
+pub mod ChangeLaws
+pub mod Walks
 pub mod Listing

@@ -3,8 +3,7 @@ use Rattle.std.specs.Prelude.{◌≡◌, ℕ, List, ◌++◌, length, drop, Some
 use Rattle.domain.specs.Coverage.{CoreFits, CoreList}
 use Rattle.domain.specs.Refusals.{first_of}
 use Rattle.domain.specs.Requests.{open_tests}
-use Rattle.domain.specs.Tables.{told_of}
-use Rattle.domain.specs.Told.{Group}
+use Rattle.domain.specs.Tables.{TableGroup}
 use Rattle.domain.specs.declared.refusal.Refusal.{Refusal}
 use Rattle.domain.specs.declared.refusal.Refusal.TheVariants.{Room}
 
@@ -21,5 +20,5 @@ WritesOr (Some e) G list list' r = (r ≡ Err e) × (list' ≡ list)
 WritesOr None G list list' (Ok k) = FillsCore G list list' k
 WritesOr None G list list' (Err e) = (e ≡ Room) × (list' ≡ list) × (CoreFits G (length list) → ⊥)
 
-abbrev pub WritesCore : ℕ → List ℕ → ℕ → ℕ → List ℕ → List ℕ → Result ℕ Refusal → Type 0
-WritesCore n table f l list list' r = WritesOr (first_of (open_tests n)) (Group (told_of n table f l)) list list' r
+abbrev pub WritesCore : ℕ → List ℕ → List ℕ → List ℕ → Result ℕ Refusal → Type 0
+WritesCore n table list list' r = WritesOr (first_of (open_tests n)) (TableGroup n table) list list' r

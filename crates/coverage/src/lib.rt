@@ -1,16 +1,12 @@
-// The theory of coverage: what a set of groups covers, its core, and how the steps act on both.
+//! The theory of coverage: what the groups of a description cover, the core, and how the changes act on both.
 #![tactic(auto)]
 
-pub mod binding;
+pub mod action;
+pub mod changes;
 pub mod cores;
-pub mod existence;
-pub mod forgetting;
 pub mod groups;
-pub mod joining;
-pub mod keeping;
 pub mod least;
 pub mod likeness;
 pub mod listing;
 #[cfg(test)]
 mod tests;
-pub mod window;

@@ -1,5 +1,6 @@
-// Worked values on three positions. Bit g of the table's one byte says whether the mask g is a group.
+//! Worked values on three positions. Bit g of the table's one byte says whether the mask g is a group.
 use crate::groups::Groups;
+use domain::limits::MOST_POSITIONS;
 use domain::refusal::Refusal;
 
 fn groups(table: &[u8], positions: u8) -> Groups<'_> {
@@ -44,7 +45,10 @@ fn edges(rt: HostRuntime) {
     let table = [0b1100_1000u8];
     assert_eq!(rt; groups(&table, 2).is_core(7), false);
     assert_eq!(rt; groups(&table, 2).core_count(), Ok(1));
-    assert_eq!(rt; groups(&[], 12).core_count(), Ok(0));
+    assert_eq!(rt; groups(&[], MOST_POSITIONS).core_count(), Ok(0));
     assert_eq!(rt; groups(&table, 0).core_count(), Err(Refusal::Count));
-    assert_eq!(rt; groups(&table, 13).core_count(), Err(Refusal::Count));
+    assert_eq!(rt;
+        groups(&table, MOST_POSITIONS + 1).core_count(),
+        Err(Refusal::Count)
+    );
 }

@@ -1,27 +1,22 @@
-// A description: its groups as a bit table, and the marks beside it.
+//! A description: its groups as a bit table, and its outline beside it.
 #![tactic(auto)]
 
 ghost use Rattle.domain.specs.Tables.{told_with};
 ghost use Rattle.domain.specs.Told.{Lawful};
 
 mod ask;
-mod bind;
-mod forget;
-mod groups;
-mod join;
-mod lend;
-mod opening;
-mod read;
+mod change;
+mod parts;
 #[cfg(test)]
 mod tests;
-mod work;
 
-use domain::marks::Marks;
-use domain::table::BYTES;
+use domain::limits::TABLE_BYTES;
+use domain::outline::Outline;
 
+/// A description. One that breaks a rule of descriptions cannot be made.
 #[derive(Drop)]
 pub struct Description {
-    marks: Marks,
-    table: [u8; BYTES],
-    ghost lawful: { Lawful (told_with marks table) },
+    outline: Outline,
+    table: [u8; TABLE_BYTES],
+    ghost lawful: { Lawful (told_with outline table) },
 }

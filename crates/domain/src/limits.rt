@@ -44,7 +44,8 @@ pub fn check_position(positions: u8, p: u8) -> Result<(), Refusal>
 
 /// Refuses fewer bytes than the work on so many positions needs.
 pub fn check_room(positions: u8, bytes: usize) -> Result<(), Refusal>
-    ensures { Gives (first_of (room_tests positions bytes)) result (λ u. bytes_for positions ≤ bytes) }
+    ensures { Gives (first_of (room_tests positions bytes)) result
+        (λ u. bytes_for positions ≤ bytes) }
 {
     if bytes < bytes_for(positions) {
         return Err(Refusal::Room);

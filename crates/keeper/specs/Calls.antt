@@ -16,6 +16,10 @@ use Rattle.keeper.specs.declared.write_out.WrittenOut.{WrittenOut}
 abbrev pub fault_of : Refusal → KeeperFault
 fault_of e = record { refusal = e }
 
+-- what a keeper tells before it is opened
+abbrev pub unopened : Told
+unopened = record { n = 0; groups = λ g. false; marks = record { free = 0; linear = 0 } }
+
 -- A call that may change the description. `refusal` is the first of its tests that fails, if one does;
 -- `Rule e` says that the call's rule gives e; `Left e after` says how the description told afterwards
 -- answers to it. A refused call leaves all that was told. The capacity is tested last: the call is

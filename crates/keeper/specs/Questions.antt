@@ -4,8 +4,8 @@ use Rattle.domain.specs.Groups.{IsGround, Share}
 use Rattle.domain.specs.Told.{Told, Group, IsFree, IsLinear}
 use Rattle.keeper.specs.Calls.{Answers, ask_refusal, pair_refusal}
 use Rattle.keeper.specs.declared.fault.KeeperFault.{KeeperFault}
-use Rattle.keeper.specs.declared.question.Question.{Question}
-use Rattle.keeper.specs.declared.question.Question.TheVariants.{Ground, Free, Linear, Pair}
+use Rattle.keeper.specs.declared.questions.Question.{Question}
+use Rattle.keeper.specs.declared.questions.Question.TheVariants.{Ground, Free, Linear, Pair}
 
 -- each question answers from the description told
 abbrev pub Asks : Told → Question → Result Bool KeeperFault → Type 0

@@ -1,7 +1,12 @@
 //! Keepers: what holds a description and answers questions about it.
 #![tactic(auto)]
 
-pub mod fault;
-pub mod keeper;
-pub mod question;
-pub mod write_out;
+mod calls;
+mod fault;
+mod questions;
+mod write_out;
+
+pub use calls::Keeper;
+pub use fault::KeeperFault;
+pub use questions::Question;
+pub use write_out::WrittenOut;

@@ -1,7 +1,7 @@
 -- What the entries of a list keeper answer.
 use Rattle.std.proofs.Common.{◌≡◌, ℕ, ◌<◌, Bool, not, List, take, Some, Ok, Decides, Option, sym, subst, arith}
 use Rattle.std.proofs.lemmas.Bool.{ne_eqb, lt-leb}
-use Rattle.coverage.proofs.Verdicts.{decides_map, decides_not}
+use Rattle.std.proofs.lemmas.Bool.Decides.{Decides-like, Decides-not}
 use Rattle.domain.specs.Groups.{Share, IsGround}
 use Rattle.domain.specs.Told.{Told, Group}
 use Rattle.keeper.specs.Calls.{Answers, ask_refusal, pair_refusal}
@@ -29,18 +29,18 @@ module _ (head : Head) (list : List ℕ) (p q : ℕ) where
       record { group = s.group; listed = test_listed (take head.count list) s.group s.told.told; left = s.left; right = s.right }
 
   decides_share : {b : Bool} → Decides b (SomeHolds (take head.count list) p q) → Decides b (Share (Group (tells head list)) p q)
-  decides_share h = decides_map share_some some_share h
+  decides_share h = Decides-like _ share_some some_share h
 
 module _ (head : Head) (list : List ℕ) (p : ℕ) (low : p < head.outline.positions) where
   decides_ground : (b : Bool) → Decides b (SomeHolds (take head.count list) p p) → Decides (not b) (IsGround head.outline.positions (Group (tells head list)) p)
   decides_ground b h =
-      decides_map
+      Decides-like (not b)
       (λ n. record {
         position = low;
         none = λ g t i. n (record { group = g; listed = test_listed (take head.count list) g t.told; left = i; right = i });
       })
       (λ g s. g.none s.group (record { told = listed_test (take head.count list) s.listed }) s.left)
-      (decides_not b h)
+      (Decides-not b h)
 
 -- a question of an opened keeper
 module _ (held : Option Head) (head : Head) (list : List ℕ) (is : held ≡ Some head) (some : 0 < head.outline.positions) (p : ℕ) where

@@ -3,7 +3,7 @@ use Rattle.std.proofs.Common.{◌≡◌, ℕ, ◌/◌, ◌^◌, ◌<◌, ◌≤�
 use Rattle.std.proofs.lemmas.Bool.{ne_eqb, false≢true}
 use Rattle.coverage.proofs.Cover.{same_turned, same_trans, same_groups}
 use Rattle.coverage.proofs.CoreLeast.{core_same, dec_group}
-use Rattle.coverage.proofs.OneResult.{one_told}
+use Rattle.coverage.proofs.ChangeLaws.{one_told}
 use Rattle.domain.specs.Changes.{Makes, change_tests}
 use Rattle.domain.specs.Coverage.{Alike, Core, Listed}
 use Rattle.domain.specs.Masks.{In}
@@ -18,7 +18,7 @@ use Rattle.domain.specs.declared.refusal.Refusal.TheVariants.{Order}
 use Rattle.domain.proofs.Bits.{in_single, single_in}
 use Rattle.domain.proofs.Tables.{room_for}
 use Rattle.domain.proofs.Laws.{group_of, of_group}
-use Rattle.keeper.specs.Calls.{Changes, ChangesBy, Exactly, Opens, opened}
+use Rattle.keeper.specs.Calls.{Changes, ChangesBy, Exactly, Opens}
 use Rattle.keeper.specs.declared.fault.KeeperFault.{KeeperFault}
 use Rattle.list_keeper.proofs.Keeping.{own_range}
 use Rattle.list_keeper.proofs.Listing.{test_listed, listed_test}

@@ -7,7 +7,6 @@ use Rattle.coverage.proofs.Cover.{same_turned}
 use Rattle.coverage.proofs.CoreLeast.{core_same, core_kept, dec_group}
 use Rattle.coverage.proofs.ExistsCore.{dec_core}
 use Rattle.coverage.proofs.ListedCores.{fills_inside, fills_given}
-use Rattle.coverage.proofs.Pairs.{core_as}
 use Rattle.coverage.proofs.Searching.{dec_stable}
 use Rattle.domain.specs.Coverage.{Core, CoreList, CoreFits, Listed}
 use Rattle.domain.specs.Refusals.{first_of}
@@ -28,6 +27,18 @@ use Rattle.list_keeper.specs.ListKeepers.{KeepsList}
 use Rattle.list_keeper.specs.Tells.{tells}
 use Rattle.list_keeper.specs.declared.ListKeeper.{ListKeeper}
 use Rattle.list_keeper.specs.declared.head.Head.{Head}
+
+-- sets with the same groups have the same core
+core_as : {G H : ℕ → Type 0} {g : ℕ} → ((h : ℕ) → G h → H h) → ((h : ℕ) → H h → G h) → Core G g → Core H g
+core_as {g = g} f b c =
+    record {
+      told = f g c.told;
+      p = c.p;
+      q = c.q;
+      left = c.left;
+      right = c.right;
+      uncovered = λ h t w ne i j. c.uncovered h (b h t) w ne i j;
+    }
 
 -- ---- what is told is its own core
 

@@ -18,7 +18,7 @@ capacity_of k = length k.list.now
 -- its list is the one that is lent, as it stands
 pub record IsOver (k : ListKeeper) (list : MutBor (List ℕ)) : Type 0 where
   pub lent : k.list.ghost_name ≡ list.ghost_name
-  pub same : k.list.now ≡ list.old
+  pub same : k.list.now ≡ list.now
 
 -- A call leaves the list that was lent, as long as it was. While the keeper is not opened the list stays as it was;
 -- from then on the core of what is told is laid out in it.

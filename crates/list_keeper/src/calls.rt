@@ -12,9 +12,7 @@ use crate::head::Head;
 use domain::change::Change;
 use domain::limits::check_position;
 use domain::refusal::Refusal;
-use keeper::fault::KeeperFault;
-use keeper::keeper::Keeper;
-use keeper::write_out::WrittenOut;
+use keeper::{Keeper, KeeperFault, WrittenOut};
 
 impl<'a> ListKeeper<'a> {
     /// A keeper over a list, not opened yet. The list stays as it is.

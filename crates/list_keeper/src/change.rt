@@ -13,7 +13,7 @@ use crate::head::Head;
 use crate::store::store;
 use domain::change::Change;
 use domain::refusal::Refusal;
-use keeper::fault::KeeperFault;
+use keeper::KeeperFault;
 use rules::lent::{change_table, load_table, open_table};
 
 pub(crate) fn open_list(
@@ -25,9 +25,8 @@ pub(crate) fn open_list(
     requires { ForSome head.old (λ h. Kept h list.old) }
     ensures kept { ForSome head.new (λ h. Kept h list.new) }
     ensures untouched { ForNone head.new (list.new ≡ list.old) }
-    ensures opens {
-        Opens (length list.old) n (length scratch.old) (told_by head.old list.old) (told_by head.new list.new) result
-    }
+    ensures opens { Opens (length list.old) n (length scratch.old) (told_by head.old list.old)
+        (told_by head.new list.new) result }
 {
     if head.is_some() {
         return Err(Refusal::Order.into());
@@ -46,10 +45,8 @@ pub(crate) fn change_list(
     requires { ForSome head.old (λ h. Kept h list.old) }
     ensures kept { ForSome head.new (λ h. Kept h list.new) }
     ensures untouched { ForNone head.new (list.new ≡ list.old) }
-    ensures changes {
-        ChangesBy (lent_change change.entry) (length list.old) (length scratch.old)
-        (told_by head.old list.old) (told_by head.new list.new) result
-    }
+    ensures changes { ChangesBy (lent_change change.entry) (length list.old) (length scratch.old)
+        (told_by head.old list.old) (told_by head.new list.new) result }
 {
     let opened = head.ok_or(Refusal::Order)?;
     load(opened, list, scratch);
@@ -60,9 +57,8 @@ pub(crate) fn change_list(
 // Puts the groups of the list into the table, which then tells what the keeper tells, if it is long enough.
 fn load(head: Head, list: &[u16], table: &mut [u8])
     requires { Kept head list.now }
-    ensures {
-        bytes_for head.outline.positions ≤ length table.old → told_with head.outline table.new ≡ tells head list.now
-    }
+    ensures { bytes_for head.outline.positions ≤ length table.old → told_with head.outline table.new
+        ≡ tells head list.now }
 {
     load_table(table, &list[..head.count]);
 }

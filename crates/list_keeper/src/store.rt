@@ -11,7 +11,7 @@ use coverage::groups::Groups;
 use domain::limits::MOST_POSITIONS;
 use domain::outline::Outline;
 use domain::refusal::Refusal;
-use keeper::fault::KeeperFault;
+use keeper::KeeperFault;
 
 // Puts the core of the table into the list, and the outline beside it. Where the core has more groups than the
 // list has room for, nothing is changed.
@@ -26,10 +26,8 @@ pub(crate) fn store(
     requires kept { ForSome head.old (λ h. Kept h list.old) }
     ensures kept { ForSome head.new (λ h. Kept h list.new) }
     ensures untouched { ForNone head.new (list.new ≡ list.old) }
-    ensures stores {
-        Stores (told_with outline table.now) (length list.old)
-        (told_by head.old list.old) (told_by head.new list.new) result
-    }
+    ensures stores { Stores (told_with outline table.now) (length list.old)
+        (told_by head.old list.old) (told_by head.new list.new) result }
 {
     let groups = Groups {
         table,

@@ -4,9 +4,7 @@ use domain::limits::TABLE_BYTES;
 use domain::marks::Marks;
 use domain::refusal::Refusal;
 use domain::term::Term;
-use keeper::fault::KeeperFault;
-use keeper::keeper::Keeper;
-use keeper::write_out::WrittenOut;
+use keeper::{Keeper, KeeperFault, WrittenOut};
 use std::test::Fail;
 
 fn refused<T>(refusal: Refusal) -> Result<T, KeeperFault> {
@@ -62,6 +60,9 @@ fn a_list_of_five_is_not(rt: HostRuntime) {
 #[test]
 fn an_empty_list_takes_nothing(rt: HostRuntime) {
     let mut keeper = ListKeeper::new(&mut []);
-    assert_eq!(rt; keeper.open(1, &mut [0; TABLE_BYTES]), refused(Refusal::Capacity));
+    assert_eq!(rt;
+        keeper.open(1, &mut [0; TABLE_BYTES]),
+        refused(Refusal::Capacity)
+    );
     assert_eq!(rt; keeper.is_ground(0), refused(Refusal::Order));
 }

@@ -7,7 +7,7 @@ use Rattle.reader.specs.declared.record.Record.{Record}
 use Rattle.domain.specs.declared.refusal.Refusal.TheVariants.{Depth}
 use Rattle.reader.specs.Reading.{Read, ◌>>=◌, fault}
 use Rattle.reader.specs.Records.{record_at}
-use Rattle.reader.specs.Terms.{Tree, Args, compound, none, more, summary, nothing, beside}
+use Rattle.domain.specs.Terms.{Tree, Args, compound, none, more, summary, constant_term, beside}
 use Rattle.reader.specs.Trees.{args_by, args_of, compound_of, tree_of, summed, onto}
 
 -- what the terms from a place on make of what is gathered so far is the whole
@@ -20,11 +20,11 @@ onto_more : (t : Tree) (all : Term) (read : Read Args) → onto all (read >>= λ
 onto_more t all (Ok ts) = refl
 onto_more t all (Err e) = refl
 
-onto_compound : (f : ℕ) (read : Read Args) → onto nothing read ≡ summed (read >>= λ args. Ok (compound f args))
+onto_compound : (f : ℕ) (read : Read Args) → onto constant_term read ≡ summed (read >>= λ args. Ok (compound f args))
 onto_compound f (Ok args) = refl
 onto_compound f (Err e) = refl
 
-pub deeper : (bytes : List ℕ) (depth : ℕ) (r : Record) → 0 < depth → onto nothing (args_of bytes (tree_of bytes (depth - 1)) r) ≡ summed (compound_of bytes depth r)
+pub deeper : (bytes : List ℕ) (depth : ℕ) (r : Record) → 0 < depth → onto constant_term (args_of bytes (tree_of bytes (depth - 1)) r) ≡ summed (compound_of bytes depth r)
 unfolding compound_of
 deeper bytes zero r h = absurd (omega arith)
 deeper bytes (suc depth) r h =

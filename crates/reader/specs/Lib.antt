@@ -1,7 +1,6 @@
 pub mod Reading
 pub mod TermKinds
 pub mod Records
-pub mod Terms
+pub mod Heads
 pub mod Trees
 pub mod Payloads
-pub mod Following

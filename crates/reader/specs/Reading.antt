@@ -7,8 +7,9 @@ use Rattle.sheet.specs.declared.fault.ReaderFault.{ReaderFault}
 abbrev pub Read : Type 0 → Type 0
 Read A = Result A ReaderFault
 
+-- a result, and what comes after it
 infixl 20 ◌>>=◌
-abbrev pub ◌>>=◌ : {A B : Type 0} → Read A → (A → Read B) → Read B
+abbrev pub ◌>>=◌ : {A B E : Type 0} → Result A E → (A → Result B E) → Result B E
 ◌>>=◌ (Ok a) f = f a
 ◌>>=◌ (Err e) f = Err e
 

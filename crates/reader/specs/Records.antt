@@ -1,7 +1,9 @@
 -- A record: a two-byte length of its payload, a two-byte kind, then the payload.
 use Rattle.std.specs.Prelude.{◌≡◌, ℕ, zero, suc, ◌+◌, ◌-◌, ◌*◌, ◌≤◌, List, [], ◌∷◌, length, Ok, nat_le, nat_lt, slice_index}
+use Rattle.domain.specs.declared.limits.TheConstants.{MOST_POSITIONS}
 use Rattle.domain.specs.declared.refusal.Refusal.TheVariants.{Truncated, Position}
 use Rattle.reader.specs.declared.record.Record.{Record}
+use Rattle.reader.specs.declared.record.TheConstants.{HEAD}
 use Rattle.reader.specs.Reading.{Read, refuse}
 
 abbrev pub byte_at : List ℕ → ℕ → ℕ
@@ -19,9 +21,9 @@ groups_at bytes start (suc count) = pair_at bytes start ∷ groups_at bytes (sta
 -- the record at a place, refused where it runs past the end
 abbrev pub record_at : List ℕ → ℕ → ℕ → Read Record
 record_at bytes at end =
-    refuse (nat_lt (end - at) 4) Truncated at
-    (refuse (nat_lt (end - (at + 4)) (pair_at bytes at)) Truncated at
-    (Ok (record { place = at; kind = pair_at bytes (at + 2); start = at + 4; end = at + 4 + pair_at bytes at })))
+    refuse (nat_lt (end - at) HEAD) Truncated at
+    (refuse (nat_lt (end - (at + HEAD)) (pair_at bytes at)) Truncated at
+    (Ok (record { place = at; kind = pair_at bytes (at + 2); start = at + HEAD; end = at + HEAD + pair_at bytes at })))
 
 -- how long the payload is
 abbrev pub payload : Record → ℕ
@@ -29,12 +31,12 @@ payload r = r.end - r.start
 
 -- a byte of the payload that names a position
 abbrev pub position_at : List ℕ → Record → ℕ → Read ℕ
-position_at bytes r at = refuse (nat_le 12 (byte_at bytes at)) Position r.place (Ok (byte_at bytes at))
+position_at bytes r at = refuse (nat_le MOST_POSITIONS (byte_at bytes at)) Position r.place (Ok (byte_at bytes at))
 
 -- a record that starts at a place and lies before an end
-pub record Within (at end : ℕ) (r : Record) : Type 0 where
+pub record LiesBetween (at end : ℕ) (r : Record) : Type 0 where
   pub place : r.place ≡ at
-  pub head : at + 4 ≡ r.start
+  pub head : at + HEAD ≡ r.start
   pub payload : r.start ≤ r.end
   pub inside : r.end ≤ end
 

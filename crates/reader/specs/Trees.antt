@@ -1,14 +1,15 @@
 -- Reading a term: the tree that the bytes of its record hold, or the first fault.
-use Rattle.std.specs.Prelude.{◌≡◌, ℕ, zero, suc, ◌+◌, true, false, not, List, IfOk, Some, None, Ok, Option, ◌==◌, nat_lt}
+use Rattle.std.specs.Prelude.{◌≡◌, ℕ, zero, suc, ◌+◌, not, if◌then◌else◌, List, IfOk, Some, None, Ok, Option, ◌==◌, nat_lt}
 use Rattle.domain.specs.declared.refusal.Refusal.TheVariants.{Kind, Length, Depth}
 use Rattle.domain.specs.declared.term.Term.{Term}
 use Rattle.reader.specs.declared.record.Record.{Record}
+use Rattle.reader.specs.declared.term.TheConstants.{DEEPEST}
 use Rattle.reader.specs.declared.term.TermKind.{TermKind}
 use Rattle.reader.specs.declared.term.TermKind.TheVariants.{Position, Constant, Compound}
 use Rattle.reader.specs.Reading.{Read, ◌>>=◌, fault, refuse}
 use Rattle.reader.specs.TermKinds.{term_kind}
 use Rattle.reader.specs.Records.{pair_at, record_at, payload, position_at}
-use Rattle.reader.specs.Terms.{Tree, Args, position, constant, compound, none, more, summary, gathered, Sums}
+use Rattle.domain.specs.Terms.{Tree, Args, position, constant, compound, none, more, summary, gathered, Sums}
 
 abbrev pub position_of : List ℕ → Record → Read Tree
 position_of bytes r =
@@ -34,14 +35,11 @@ tree_by bytes inner r (Some Compound) = compound_by bytes inner r
 unfoldable pub args_by : List ℕ → (Record → Read Tree) → ℕ → ℕ → ℕ → Read Args
 args_by bytes tree zero at end = Ok none
 args_by bytes tree (suc turns) at end =
-    elim (at == end) [
-      | true ↦ Ok none
-      | false ↦
-          record_at bytes at end >>= λ r.
-          tree r >>= λ t.
-          args_by bytes tree turns r.end end >>= λ ts.
-          Ok (more t ts)
-    ]
+    (if at == end then Ok none
+    else (record_at bytes at end >>= λ r.
+    tree r >>= λ t.
+    args_by bytes tree turns r.end end >>= λ ts.
+    Ok (more t ts)))
 
 -- the terms after the functor number. No record is empty, so as many turns as bytes are enough
 abbrev pub args_of : List ℕ → (Record → Read Tree) → Record → Read Args
@@ -70,13 +68,9 @@ summed read = read >>= λ tree. Ok (summary tree)
 abbrev pub onto : Term → Read Args → Read Term
 onto before read = read >>= λ args. Ok (gathered args before)
 
--- how deep compounds may nest
-abbrev pub deepest : ℕ
-deepest = 16
-
 abbrev pub term_of : List ℕ → Record → Read Term
-term_of bytes r = summed (tree_of bytes deepest r)
+term_of bytes r = summed (tree_of bytes DEEPEST r)
 
 -- the law of what is read: it sums up the term that the bytes hold
 abbrev pub SumsUp : List ℕ → Record → Read Term → Type 0
-SumsUp bytes r read = IfOk read (λ t. (tree : Tree) × (tree_of bytes deepest r ≡ Ok tree) × Sums tree t)
+SumsUp bytes r read = IfOk read (λ t. (tree : Tree) × (tree_of bytes DEEPEST r ≡ Ok tree) × Sums tree t)

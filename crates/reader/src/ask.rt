@@ -1,11 +1,12 @@
+//! The payload of an ask.
 ghost use Rattle.std.specs.Prelude.{◌≡◌, ◌≤◌};
 ghost use Rattle.reader.specs.Records.{payload};
 ghost use Rattle.reader.specs.Payloads.{one_of, two_of, question_of};
 
 use crate::record::SheetRecord;
 use domain::refusal::Refusal;
-use keeper::question::Question;
-use sheet::fault::ReaderFault;
+use keeper::Question;
+use sheet::ReaderFault;
 
 impl SheetRecord<'_> {
     // The question of an ask: its letter, and then the positions that the letter takes.
@@ -25,7 +26,6 @@ impl SheetRecord<'_> {
         }
     }
 
-    // two functions, since three letters take one position: an array of N would be taken apart at each
     fn one_position(&self) -> Result<u8, ReaderFault>
         ensures { result ≡ one_of self.now.sheet.now self.now.frame }
     {

@@ -1,13 +1,13 @@
-// The reader: from the bytes of a sheet to records, and from a record to its step, in the order of steps.
+//! The reader: from the bytes of a sheet to the head of a record, and from there to its step.
 #![tactic(auto)]
 
 mod ask;
-pub mod groups;
-pub mod next;
+mod groups;
 mod record;
-pub mod state;
 mod step;
-mod sum;
 mod term;
 #[cfg(test)]
 mod tests;
+
+pub use groups::copy_groups;
+pub use step::StepRecord;

@@ -1,10 +1,12 @@
+//! Records: a head of a length and a kind, then the payload.
 ghost use Rattle.std.specs.Prelude.{◌≡◌, ◌+◌, ◌<◌, ◌≤◌, true, false, length, Ok, Err, IfOk, IfErr};
+ghost use Rattle.domain.specs.declared.limits.TheConstants.{MOST_POSITIONS};
 ghost use Rattle.domain.specs.declared.refusal.Refusal.TheVariants.{Length};
-ghost use Rattle.reader.specs.Records.{record_at, pair_at, payload, position_at, Part, Within};
+ghost use Rattle.reader.specs.Records.{record_at, pair_at, payload, position_at, LiesBetween, Part};
 
-use domain::count::{MOST_POSITIONS, check_position};
+use domain::limits::{MOST_POSITIONS, check_position};
 use domain::refusal::Refusal;
-use sheet::fault::ReaderFault;
+use sheet::ReaderFault;
 
 // A length and a kind stand before the payload.
 const HEAD: usize = 4;
@@ -13,9 +15,8 @@ const HEAD: usize = 4;
 #[derive(Clone, Copy)]
 pub(crate) struct Record {
     pub(crate) place: usize,
-    // the number as it stands on the sheet: a step and a term read it by tables of their own
+    // the number as it stands on the sheet
     pub(crate) kind: u16,
-    // places, and no slice: definitions equate records, and an equation cannot say where a slice lies
     pub(crate) start: usize,
     pub(crate) end: usize,
 }
@@ -34,7 +35,8 @@ impl Record {
     // The kind of what the record holds, a step or a term.
     pub(crate) fn kind_of<K: TryFrom<u16, Error = Refusal> + Drop>(self) -> Result<K, ReaderFault>
         ensures ok { IfOk result (λ k. K.try_from_gives self.kind (Ok k)) }
-        ensures err { IfErr result (λ f. K.try_from_gives self.kind (Err f.refusal) × (f.place ≡ self.place)) }
+        ensures err { IfErr result (λ f.
+            K.try_from_gives self.kind (Err f.refusal) × (f.place ≡ self.place)) }
     {
         K::try_from(self.kind).map_err(|refusal| self.fault(refusal))
     }
@@ -58,7 +60,7 @@ impl<'a> SheetRecord<'a> {
         requires { end ≤ length sheet.now }
         ensures frame { IfOk result (λ x. Ok x.frame ≡ record_at sheet.now at end) }
         ensures fault { IfErr result (λ f. Err f ≡ record_at sheet.now at end) }
-        ensures within { IfOk result (λ x. Within at end x.frame) }
+        ensures within { IfOk result (λ x. LiesBetween at end x.frame) }
         ensures same_sheet { IfOk result (λ x. x.sheet.now ≡ sheet.now) }
     {
         let truncated = ReaderFault {
@@ -84,9 +86,11 @@ impl<'a> SheetRecord<'a> {
 
     // The record at a place of the payload, past which it may not reach.
     pub(crate) fn inner(&self, at: usize) -> Result<SheetRecord<'a>, ReaderFault>
-        ensures frame { IfOk result (λ x. Ok x.frame ≡ record_at self.now.sheet.now at self.now.frame.end) }
-        ensures fault { IfErr result (λ f. Err f ≡ record_at self.now.sheet.now at self.now.frame.end) }
-        ensures within { IfOk result (λ x. Within at self.now.frame.end x.frame) }
+        ensures frame { IfOk result (λ x.
+            Ok x.frame ≡ record_at self.now.sheet.now at self.now.frame.end) }
+        ensures fault { IfErr result (λ f.
+            Err f ≡ record_at self.now.sheet.now at self.now.frame.end) }
+        ensures within { IfOk result (λ x. LiesBetween at self.now.frame.end x.frame) }
         ensures same_sheet { IfOk result (λ x. x.sheet.now ≡ self.now.sheet.now) }
     {
         SheetRecord::read(self.sheet, at, self.frame.end)
@@ -102,7 +106,8 @@ impl<'a> SheetRecord<'a> {
     // Refuses a payload whose length does not fit.
     pub(crate) fn expect(&self, fits: bool) -> Result<(), ReaderFault>
         ensures ok { IfOk result (λ _. fits ≡ true) }
-        ensures err { IfErr result (λ f. (fits ≡ false) × (f ≡ record { refusal = Length; place = self.now.frame.place })) }
+        ensures err { IfErr result (λ f.
+            (fits ≡ false) × (f ≡ record { refusal = Length; place = self.now.frame.place })) }
     {
         if !fits {
             return Err(self.frame.fault(Refusal::Length));
@@ -113,8 +118,9 @@ impl<'a> SheetRecord<'a> {
     // The byte of the payload at an offset, which names a position.
     pub(crate) fn position_at(&self, offset: usize) -> Result<u8, ReaderFault>
         requires { offset < payload self.now.frame }
-        ensures value { result ≡ position_at self.now.sheet.now self.now.frame (self.now.frame.start + offset) }
-        ensures small { IfOk result (λ p. p < 12) }
+        ensures value { result ≡
+            position_at self.now.sheet.now self.now.frame (self.now.frame.start + offset) }
+        ensures small { IfOk result (λ p. p < MOST_POSITIONS) }
     {
         let frame = self.frame;
         let position = self.sheet[frame.start + offset];

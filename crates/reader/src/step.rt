@@ -1,28 +1,68 @@
-ghost use Rattle.std.specs.Prelude.{◌≡◌, IfOk};
-ghost use Rattle.sheet.specs.Steps.{Inside};
+//! The record of a step: its head, and the step that its payload holds.
+ghost use Rattle.std.specs.Prelude.{◌≡◌, ◌<◌, ◌≤◌, length, Ok, Err, IfOk, IfErr};
+ghost use Rattle.sheet.specs.Steps.{LiesOn};
+ghost use Rattle.reader.specs.Heads.{head_at, head_of, sheet_of};
 ghost use Rattle.reader.specs.Payloads.{open_of, bind_of, join_of, forget_of, ask_of, end_of, step_of};
 
 use crate::record::SheetRecord;
-use sheet::fault::ReaderFault;
-use sheet::step::{Step, StepKind};
+use domain::change::Change;
+use domain::listing::Listing;
+use domain::marks::Marks;
+use sheet::{ReaderFault, Span, Step, StepKind};
 
-impl SheetRecord<'_> {
-    // The step of this kind: first the payload's length, then the payload left to right.
-    pub(crate) fn step(&self, kind: StepKind) -> Result<Step, ReaderFault>
-        ensures value { result ≡ step_of self.now.sheet.now self.now.frame kind }
-        ensures inside { IfOk result (λ s. Inside self.now.sheet.now s) }
+/// The record of a step on its sheet, the head read and the payload not yet.
+#[derive(Clone, Copy)]
+pub struct StepRecord<'a> {
+    record: SheetRecord<'a>,
+    kind: StepKind,
+}
+
+impl<'a> StepRecord<'a> {
+    /// Reads the head of the record at a place of the sheet: the record must lie on the sheet, and its kind be
+    /// a step's.
+    pub fn read(sheet: &'a [u8], at: usize) -> Result<StepRecord<'a>, ReaderFault>
+        ensures head { IfOk result (λ r. Ok (head_of r) ≡ head_at sheet.now at) }
+        ensures fault { IfErr result (λ f. Err f ≡ head_at sheet.now at) }
+        ensures onward { IfOk result (λ r. at < (head_of r).frame.end) }
+        ensures inside { IfOk result (λ r. (head_of r).frame.end ≤ length sheet.now) }
+        ensures same_sheet { IfOk result (λ r. sheet_of r ≡ sheet.now) }
     {
-        // a match on a closed set is known to be complete; closures for each kind would not be
-        match kind {
-            StepKind::Open => self.open(),
-            StepKind::Bind => self.bind(),
-            StepKind::Join => self.join(),
-            StepKind::Forget => self.forget(),
-            StepKind::Ask => self.ask(),
-            StepKind::End => self.end(),
-        }
+        let record = SheetRecord::read(sheet, at, sheet.len())?;
+        let kind = record.frame.kind_of()?;
+        Ok(StepRecord { record, kind })
     }
 
+    /// The kind of the step.
+    pub fn kind(&self) -> StepKind
+        ensures { result ≡ (head_of self.now).kind }
+    {
+        self.kind
+    }
+
+    /// Where the record ends on the sheet.
+    pub fn end(&self) -> usize
+        ensures { result ≡ (head_of self.now).frame.end }
+    {
+        self.record.frame.end
+    }
+
+    /// The step that the payload holds: first its length is tested, then it is read from left to right.
+    pub fn step(&self) -> Result<Step, ReaderFault>
+        ensures value { result ≡ step_of (sheet_of self.now) (head_of self.now) }
+        ensures lies { IfOk result (LiesOn (sheet_of self.now)) }
+    {
+        match self.kind {
+            StepKind::Open => self.record.open(),
+            StepKind::Bind => self.record.bind(),
+            StepKind::Join => self.record.join(),
+            StepKind::Forget => self.record.forget(),
+            StepKind::Ask => self.record.ask(),
+            StepKind::End => self.record.end(),
+        }
+    }
+}
+
+impl SheetRecord<'_> {
     fn open(&self) -> Result<Step, ReaderFault>
         ensures { result ≡ open_of self.now.sheet.now self.now.frame }
     {
@@ -38,7 +78,7 @@ impl SheetRecord<'_> {
         let inner = self.inner(self.frame.start + 1)?;
         let term = inner.term()?;
         self.expect(inner.frame.end == self.frame.end)?;
-        Ok(Step::Bind { position, term })
+        Ok(Step::Change(Change::Bind { position, term }))
     }
 
     // The two masks, and then the groups, which stay on the sheet.
@@ -46,19 +86,22 @@ impl SheetRecord<'_> {
         ensures { result ≡ join_of self.now.sheet.now self.now.frame }
     {
         self.expect(self.len() >= 4 && self.len() % 2 == 0)?;
-        Ok(Step::Join {
+        let marks = Marks {
             free: self.pair_at(0),
             linear: self.pair_at(2),
+        };
+        let groups = Span {
             start: self.frame.start + 4,
             count: (self.len() - 4) / 2,
-        })
+        };
+        Ok(Step::Change(Change::Join(Listing { marks, groups })))
     }
 
     fn forget(&self) -> Result<Step, ReaderFault>
         ensures { result ≡ forget_of self.now.sheet.now self.now.frame }
     {
         self.expect(self.len() == 2)?;
-        Ok(Step::Forget(self.pair_at(0)))
+        Ok(Step::Change(Change::Forget(self.pair_at(0))))
     }
 
     fn ask(&self) -> Result<Step, ReaderFault>

@@ -1,16 +1,16 @@
+//! The terms of a bind.
 ghost use Rattle.std.specs.Prelude.{◌≡◌, ◌≤◌};
 ghost use Rattle.std.specs.Option.{ok_or};
+ghost use Rattle.domain.specs.Terms.{constant_term};
 ghost use Rattle.domain.specs.declared.refusal.Refusal.TheVariants.{Kind};
 ghost use Rattle.reader.specs.Records.{payload};
 ghost use Rattle.reader.specs.TermKinds.{term_kind};
-ghost use Rattle.reader.specs.Terms.{nothing};
 ghost use Rattle.reader.specs.Trees.{position_of, constant_of, compound_by, compound_of, args_of, tree_of, summed, onto, term_of, SumsUp};
 
 use crate::record::SheetRecord;
-use crate::sum::{empty, join, single};
 use domain::refusal::Refusal;
 use domain::term::Term;
-use sheet::fault::ReaderFault;
+use sheet::ReaderFault;
 
 // The kinds of terms.
 #[derive(Clone, Copy)]
@@ -54,7 +54,6 @@ impl SheetRecord<'_> {
     fn nested(&self, depth: u8) -> Result<Term, ReaderFault>
         ensures { result ≡ summed (tree_of self.now.sheet.now depth self.now.frame) }
     {
-        // a match on a closed set is known to be complete; closures for each kind would not be
         match self.frame.kind_of::<TermKind>()? {
             TermKind::Position => self.position(),
             TermKind::Constant => self.constant(),
@@ -66,21 +65,22 @@ impl SheetRecord<'_> {
         ensures { result ≡ summed (position_of self.now.sheet.now self.now.frame) }
     {
         self.expect(self.len() == 1)?;
-        Ok(single(self.position_at(0)?))
+        Ok(Term::position(self.position_at(0)?))
     }
 
     fn constant(&self) -> Result<Term, ReaderFault>
         ensures { result ≡ summed (constant_of self.now.sheet.now self.now.frame) }
     {
         self.expect(self.len() == 2)?;
-        Ok(empty())
+        Ok(Term::over(0, 0))
     }
 
     // A compound, whose terms fill its payload after the functor number.
     #[cycle(arguments_compound_nested)]
     #[tactic(auto, using(crate::proofs::Arguments::too_deep, crate::proofs::Arguments::deeper))]
     fn compound(&self, depth: u8) -> Result<Term, ReaderFault>
-        ensures { result ≡ summed (compound_by self.now.sheet.now (compound_of self.now.sheet.now depth) self.now.frame) }
+        ensures { result ≡ summed (compound_by self.now.sheet.now
+            (compound_of self.now.sheet.now depth) self.now.frame) }
     {
         self.expect(self.len() >= 6)?;
         if depth == 0 {
@@ -94,14 +94,14 @@ impl SheetRecord<'_> {
     #[tactic(auto, using(crate::proofs::Arguments::next_from))]
     fn arguments(&self, depth: u8) -> Result<Term, ReaderFault>
         requires { 2 ≤ payload self.now.frame }
-        ensures { result ≡ onto nothing (args_of self.now.sheet.now (tree_of self.now.sheet.now depth) self.now.frame) }
+        ensures { result ≡ onto constant_term (args_of self.now.sheet.now
+            (tree_of self.now.sheet.now depth) self.now.frame) }
     {
-        let mut all = empty();
+        let mut all = Term::over(0, 0);
         let mut at = self.frame.start + 2;
-        // no index: where the next record starts is known once one is read
         while at < self.frame.end {
             let inner = self.inner(at)?;
-            all = join(all, inner.nested(depth)?);
+            all = all.beside(inner.nested(depth)?);
             at = inner.frame.end;
         }
         Ok(all)

@@ -1,28 +1,32 @@
-// Small sheets, read.
+//! Small sheets, read.
 ghost use Rattle.std.specs.Prelude.{◌≤◌};
 
-use crate::record::SheetRecord;
+use crate::step::StepRecord;
+use domain::change::Change;
+use domain::listing::Listing;
+use domain::marks::Marks;
 use domain::refusal::Refusal;
 use domain::term::Term;
-use keeper::question::Question;
-use sheet::fault::ReaderFault;
-use sheet::step::Step;
+use keeper::Question;
+use sheet::{ReaderFault, Span, Step};
 use std::process::Abort;
 
 // The first step of a sheet.
 fn first(sheet: &[u8]) -> Result<Step, ReaderFault> {
-    let record = SheetRecord::read(sheet, 0, sheet.len())?;
-    record.step(record.frame.kind_of()?)
+    StepRecord::read(sheet, 0)?.step()
 }
 
-// The parts of a term one by one, here and of a join below, so that a test is a row.
+fn changed(rt: &impl Abort, sheet: &[u8], change: Change<Span>) {
+    assert_eq!(rt; first(sheet), Ok(Step::Change(change)));
+}
+
 fn bound(rt: &impl Abort, sheet: &[u8], bare: bool, held: u16, repeated: u16) {
     let term = Term {
         bare,
         held,
         repeated,
     };
-    assert_eq!(rt; first(sheet), Ok(Step::Bind { position: 0, term }));
+    changed(rt, sheet, Change::Bind { position: 0, term });
 }
 
 fn refused(rt: &impl Abort, sheet: &[u8], refusal: Refusal, place: usize) {
@@ -74,13 +78,9 @@ fn nests_sixteen_deep(rt: HostRuntime) {
 }
 
 fn joined(rt: &impl Abort, sheet: &[u8], free: u16, linear: u16, start: usize, count: usize) {
-    let step = Step::Join {
-        free,
-        linear,
-        start,
-        count,
-    };
-    assert_eq!(rt; first(sheet), Ok(step));
+    let marks = Marks { free, linear };
+    let groups = Span { start, count };
+    changed(rt, sheet, Change::Join(Listing { marks, groups }));
 }
 
 #[test]
@@ -91,7 +91,7 @@ fn joins(rt: HostRuntime) {
 
 #[test]
 fn forgets(rt: HostRuntime) {
-    assert_eq!(rt; first(b"\x02\0\x04\0\x03\x08"), Ok(Step::Forget(0x0803)));
+    changed(&rt, b"\x02\0\x04\0\x03\x08", Change::Forget(0x0803));
 }
 
 fn asked(rt: &impl Abort, sheet: &[u8], question: Question) {

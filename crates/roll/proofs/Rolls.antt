@@ -1,6 +1,6 @@
 -- Lemmas on lists of entries with keys: the steps of a search and of a count, and what one more entry
 -- leaves as it was.
-use Rattle.std.proofs.Common.{◌≡◌, ℕ, zero, suc, ◌+◌, ◌-◌, ◌<◌, ◌≤◌, Bool, true, false, cond, ltb, List, [], ◌∷◌, ◌++◌, length, get_or, take, drop, set, sym, refl, ap, ◌∙◌, subst, add-one, one-add, arith}
+use Rattle.std.proofs.Common.{◌≡◌, ℕ, zero, suc, ◌+◌, ◌-◌, ◌<◌, ◌≤◌, Bool, true, false, cond, ltb, List, [], ◌∷◌, ◌++◌, length, get_or, take, drop, set, sym, refl, ap, ◌∙◌, subst, inl, inr, add-one, one-add, arith}
 use lib.Seq.{paste}
 use Rattle.std.specs.Bool.{MatchBool, Decides}
 use Rattle.std.specs.List.{insert as inserted, AllByRecursion, AllWithin, HoldsAt}
@@ -8,8 +8,9 @@ use Rattle.std.proofs.lemmas.List.{append_assoc, take_more, take_all, drop-set-l
 use Rattle.std.proofs.lemmas.List.Edits.{drop-paste}
 use Rattle.std.proofs.ByRecursion.{All-weaker}
 use Rattle.std.proofs.lemmas.Bool.{ltb-true, ltb-false, lt-ltb, le-ltb, false≢true, cond-true, cond-false, cond_both}
-use Rattle.roll.specs.Rolls.{Holds, here, there, Counts, none, one_more, as_many, Ascending, place, insert, InOrder, Joins, Adds, Appends, Member}
-use Rattle.std.specs.Prelude.{Ok, Err, Result}
+use Rattle.roll.specs.Rolls.{Holds, here, there, Counts, none, one_more, as_many, IsAscendingBy, place, insert, IsInOrder, Inserts, Adds, Appends}
+use Rattle.std.proofs.lemmas.List.Elements.{Contains-append_cases, Contains-append_left, Contains-append_right}
+use Rattle.std.specs.Prelude.{Ok, Err, Result, Contains}
 use Rattle.roll.specs.declared.not_added.NotAdded.{NotAdded}
 use Rattle.roll.specs.declared.not_added.NotAdded.TheVariants.{Held, Full}
 
@@ -125,21 +126,24 @@ module _ {X : Type 0} (rank : X → ℕ) (x : X) where
       [ true ↦ (new, all) | false ↦ (all.0, all_insert P new ys all.1) ]
 
   -- an ascending list without that rank stays ascending
-  pub insert_ascending : (xs : List X) → (Holds rank (rank x) xs → ⊥) → Ascending rank xs → Ascending rank (insert rank x xs)
+  pub insert_ascending : (xs : List X) → (Holds rank (rank x) xs → ⊥) → IsAscendingBy rank xs → IsAscendingBy rank (insert rank x xs)
   insert_ascending [] fresh up = (tt, tt)
   insert_ascending (y ∷ ys) fresh up =
-      cond_both (ltb (rank x) (rank y)) (x ∷ (y ∷ ys)) (y ∷ insert rank x ys) (Ascending rank)
+      cond_both (ltb (rank x) (rank y)) (x ∷ (y ∷ ys)) (y ∷ insert rank x ys) (IsAscendingBy rank)
       (λ e. let lt = ltb-true (rank x) (rank y) e in ((lt, All-weaker (λ z. rank y < rank z) (λ z. rank x < rank z) (λ z h. omega arith) ys up.0), up))
       (λ e. let le = ltb-false (rank x) (rank y) e in
       let ne : rank y ≡ rank x → ⊥ = λ s. fresh (here s) in
       (all_insert (λ z. rank y < rank z) (omega arith) ys up.0, insert_ascending ys (λ h. fresh (there h)) up.1))
 
-  -- every key that the list held is held
-  pub insert_holds : {K : Type 0} (key : X → K) (k : K) (xs : List X) → Holds key k xs → Holds key k (insert rank x xs)
-  insert_holds key k [] h = elim h [ ]
-  insert_holds key k (y ∷ ys) h =
-      elim (ltb (rank x) (rank y)) as (λ v. Holds key k (cond v (x ∷ (y ∷ ys)) (y ∷ insert rank x ys)))
-      [ true ↦ there h | false ↦ elim h [ here e ↦ here e | there t ↦ there (insert_holds key k ys t) ] ]
+  -- every entry that the list held is held
+  pub insert_contains : (xs : List X) (e : X) → Contains xs e → Contains (insert rank x xs) e
+  insert_contains xs e h =
+      let p : ℕ = place rank (rank x) xs in
+      subst (λ (l : List X). Contains l e) (sym (insert_is rank x xs))
+      (elim (Contains-append_cases (take p xs) (drop p xs) e (subst (λ (l : List X). Contains l e) (sym (take-append-drop p xs)) h)) [
+        | inl front ↦ Contains-append_left (take p xs) (x ∷ drop p xs) e front
+        | inr back ↦ Contains-append_right (take p xs) (x ∷ drop p xs) e (Contains-append_right (x ∷ []) (drop p xs) e back)
+      ])
 
 -- ranks tell keys apart
 pub holds_rank : {X K : Type 0} (key : X → K) (rank : K → ℕ) → ((a b : K) → rank a ≡ rank b → a ≡ b) → (k : K) {xs : List X} → Holds (λ e. rank (key e)) (rank k) xs → Holds key k xs
@@ -150,7 +154,7 @@ holds_rank key rank apart k (there h) = there (holds_rank key rank apart k h)
 module _ {X K : Type 0} (key : X → K) (rank : K → ℕ) (x : X) (used : ℕ) (xs ys : List X) (p : ℕ) where
   stands :
       (Holds key (key x) (take used xs) → ⊥) → used < length xs → p ≡ place (λ e. rank (key e)) (rank (key x)) (take used xs) →
-      ys ≡ paste xs (p + 1) (drop p xs) (used - p) → Joins key rank x used xs (set ys p x)
+      ys ≡ paste xs (p + 1) (drop p xs) (used - p) → Inserts key rank x used xs (set ys p x)
   stands fresh room first moved =
       let within = place_le (λ e. rank (key e)) (rank (key x)) (take used xs) in
       let le : p ≤ used = omega (arith, within, first, length-take-le used xs (omega arith)) in
@@ -168,21 +172,21 @@ module _ {X K : Type 0} (key : X → K) (rank : K → ℕ) (x : X) (used : ℕ) 
   pub added_there :
       (r : ℕ) (k : K) → k ≡ key x → r ≡ rank k → (Holds key k (take used xs) → false ≡ true) → used < length xs →
       p ≡ place (λ e. rank (key e)) r (take used xs) → ys ≡ paste xs (p + 1) (drop p xs) (used - p) →
-      Joins key rank x used xs (set ys p x)
+      Inserts key rank x used xs (set ys p x)
   added_there r k same_key same_rank not_held room first moved =
       stands (λ h. false≢true (not_held (rw same_key h))) room (first ∙ rw (same_rank, same_key)) moved
 
 -- an entry that was added leaves the list in order, and no entry is lost
-module _ {X K : Type 0} (key : X → K) (rank : K → ℕ) (x : X) (used : ℕ) (xs ys : List X) (a : Joins key rank x used xs ys) where
+module _ {X K : Type 0} (key : X → K) (rank : K → ℕ) (x : X) (used : ℕ) (xs ys : List X) (a : Inserts key rank x used xs ys) where
   pub added_in_order :
-      ((j k : K) → rank j ≡ rank k → j ≡ k) → InOrder key rank (take used xs) → InOrder key rank (take (used + 1) ys)
+      ((j k : K) → rank j ≡ rank k → j ≡ k) → IsInOrder key rank (take used xs) → IsInOrder key rank (take (used + 1) ys)
   added_in_order apart up =
-      subst (Ascending (λ e. rank (key e))) (sym a.listed)
+      subst (IsAscendingBy (λ e. rank (key e))) (sym a.listed)
       (insert_ascending (λ e. rank (key e)) x (take used xs) (λ h. a.fresh (holds_rank key rank apart (key x) h)) up)
 
-  pub added_kept : (e : X) → Member e (take used xs) → Member e (take (used + 1) ys)
+  pub added_kept : (e : X) → Contains (take used xs) e → Contains (take (used + 1) ys) e
   added_kept e h =
-      subst (λ (l : List X). Member e l) (sym a.listed) (insert_holds (λ e. rank (key e)) x (λ y. y) e (take used xs) h)
+      subst (λ (l : List X). Contains l e) (sym a.listed) (insert_contains (λ e. rank (key e)) x (take used xs) e h)
 
 -- an entry above all others goes to the end, and its key is not held
 module _ {X K : Type 0} (key : X → K) (rank : K → ℕ) (x : X) where
@@ -199,7 +203,7 @@ module _ {X K : Type 0} (key : X → K) (rank : K → ℕ) (x : X) where
   above_fresh (y ∷ ys) below (there h) = above_fresh ys below.1 h
 
   module _ (used : ℕ) (xs ys : List X) where
-    written_last : Joins key rank x used xs ys → used < length xs → AllByRecursion (λ e. rank (key e) < rank (key x)) (take used xs) → ys ≡ set xs used x
+    written_last : Inserts key rank x used xs ys → used < length xs → AllByRecursion (λ e. rank (key e) < rank (key x)) (take used xs) → ys ≡ set xs used x
     written_last a room below =
         let front : take (used + 1) ys ≡ take used xs ++ x ∷ [] = a.listed ∙ insert_last (take used xs) below in
         sym (take-append-drop (used + 1) ys) ∙ rw (front, a.spare) (append_assoc (take used xs) (x ∷ []) (drop (used + 1) xs))

@@ -1,11 +1,10 @@
-// Where an entry is added.
+//! Where an entry is added.
 ghost use Rattle.std.specs.Prelude.{◌≡◌, ◌≤◌, length};
 ghost use Rattle.roll.specs.Rolls.{place};
 
 use crate::key::{Keyed, Ranked};
 
-// How many entries stand before the first with a larger rank? Not `partition_point`, since this is promised of
-// entries in any order.
+// How many entries stand before the first with a larger rank, of entries in any order.
 pub(crate) fn place_of<T: Keyed>(entries: &[T], rank: u64) -> usize
 where
     T::Key: Ranked,

@@ -1,28 +1,29 @@
-// Keys: by what an entry of a roll is found, and by what a roll is put in order.
-ghost use Rattle.std.specs.Prelude.{◌≡◌, ℕ, Decides};
+//! Keys: by what an entry of a roll is found, and by what a roll is put in order.
+ghost use Rattle.std.specs.Prelude.{◌≡◌, ℕ, ◌↔◌, IsTrue};
 ghost use Rattle.std.proofs.Common.{rules};
 
-// An entry with a key. Keys can be told equal; an order is asked only where one is needed.
+/// An entry with a key. Keys can be told equal; an order is asked only where one is needed.
 pub trait Keyed {
     type Key: Copy;
 
     // the entry's key
     ghost key: { Self → Self.Key };
 
+    /// The entry's key.
     fn key(&self) -> Self::Key
         ensures { result ≡ key self.now };
 
-    // Is this the entry's key? Each impl compares by `==`; one body for all would need a second law, that
-    // `==` of keys decides identity, in place of that line.
+    /// Whether this is the entry's key.
     fn has_key(&self, wanted: &Self::Key) -> bool
-        ensures { Decides result (key self.now ≡ wanted.now) };
+        ensures { IsTrue result ↔ (key self.now ≡ wanted.now) };
 }
 
-// A key that stands for a number, and so has an order.
+/// A key that stands for a number, and so has an order.
 pub trait Ranked {
     // the number
     ghost rank: { Self → ℕ };
 
+    /// The number that the key stands for.
     fn rank(&self) -> u64
         ensures { result ≡ rank self.now };
 
@@ -40,7 +41,7 @@ impl Ranked for u16 {
     }
 }
 
-// A bare number is its own key.
+/// A bare number is its own key.
 impl Keyed for u16 {
     type Key = u16;
 

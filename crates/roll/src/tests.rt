@@ -1,7 +1,7 @@
-// Rolls of numbers and of records, and keys that have no order.
+//! Rolls of numbers and of records, and keys that have no order.
+use crate::entries::Roll;
 use crate::key::{Keyed, Ranked};
 use crate::not_added::NotAdded;
-use crate::roll::Roll;
 use crate::search::{count_key, holds_key};
 use std::process::Abort;
 use std::test::Fail;

@@ -1,19 +1,21 @@
 -- A bind from its parts.
-use Rattle.std.proofs.Common.{◌≡◌, ℕ, ◌^◌, ◌<◌, ◌⊎◌, List, Decides, refl, inl, inr}
+use Rattle.std.proofs.Common.{ℕ, ◌^◌, ◌<◌, ◌⊎◌, ◌↔◌, List, Decides, refl, inl, inr}
 use lib.Bits.{bit_or}
 use Rattle.std.proofs.lemmas.Bool.Decides.{not_from_Decides}
-use Rattle.domain.specs.Masks.{In}
-use Rattle.domain.specs.Told.{Told, Group, Ground}
 use Rattle.domain.specs.Binding.{Fits, NewGroup, StaysFree, StaysLinear, Bound}
-use Rattle.rules.specs.Signs.{Seen, Chosen}
-use Rattle.domain.specs.Tables.{holds_bit, told_of}
+use Rattle.domain.specs.Groups.{IsGround}
+use Rattle.domain.specs.Masks.{In}
+use Rattle.domain.specs.Tables.{holds_bit, TableGroup, told_of}
+use Rattle.domain.specs.Told.{Told}
 use Rattle.domain.specs.declared.case.Case.{Case}
 use Rattle.domain.specs.declared.case.Case.TheVariants.{Free, BothLinear, PositionLinear, TermLinear, Neither}
-use Rattle.rules.specs.declared.rule.signs.Signs.{Signs}
+use Rattle.domain.specs.declared.marks.Marks.{Marks}
 use Rattle.domain.specs.declared.term.Term.{Term}
+use Rattle.rules.specs.Signs.{Seen, Chosen}
+use Rattle.rules.specs.declared.rule.sides.Signs.{Signs}
 use Rattle.domain.proofs.Bits.{in_left, in_right, in_either}
+use Rattle.domain.proofs.ChangeLaws.{new_range}
 use Rattle.domain.proofs.Laws.{group_of, of_group}
-use Rattle.domain.proofs.RuleLaws.{Ranged, new_range}
 
 -- the case that the answers choose fits
 pub fits_of : (d : Told) (x : ℕ) (t : Term) (s : Signs) (c : Case) → Seen d x t s → Chosen s c → Fits d x t c
@@ -44,55 +46,38 @@ fits_of d x t s Neither seen h = (
   not_from_Decides _ seen.term_linear h.3,
 )
 
-module _ (d : Told) (range : Ranged d) (x : ℕ) (t : Term) (c : Case) (bits : List ℕ) (f k a l : ℕ) where
-  pub bound_of :
-      Fits d x t c
-      → ((u : ℕ) → 0 < u → u < 2 ^ d.n → Decides (holds_bit bits u) (NewGroup (Group d) x t.held c u))
-      → ((p : ℕ) → StaysFree d x t p → In p f)
-      → ((p : ℕ) → In p f → StaysFree d x t p)
-      → ((p : ℕ) → StaysLinear d x t p → In p k)
-      → ((p : ℕ) → In p k → StaysLinear d x t p)
-      → ((p : ℕ) → In p a → Ground (told_of d.n bits f l) p)
-      → ((p : ℕ) → Ground (told_of d.n bits f l) p → In p a)
-      → l ≡ bit_or (bit_or k f) a
-      → Bound d x t (told_of d.n bits f l)
-  bound_of fits new free_kept free_only linear_kept linear_only ground_made ground_all whole =
-      record {
-        positions = refl;
-        case = c;
-        fits = fits;
-        groups_made = λ g m. let r = new_range d range x t.held c m in group_of d.n bits f l g r.0 r.1 ((new g r.0 r.1).1 m);
-        groups_only = λ g m. let r = of_group d.n bits f l g m in (new g r.0 r.1).0 r.2;
-        free_kept = free_kept;
-        free_only = free_only;
-        linear_kept = λ p s. rw whole (in_left a (in_left f (linear_kept p s)));
-        linear_added = λ p s. rw whole (added p s);
-        linear_only = λ p i. only p (in_either (bit_or k f) a (rw whole at i));
-      }
-    where
-      added : (p : ℕ) → In p f ⊎ Ground (told_of d.n bits f l) p → In p (bit_or (bit_or k f) a)
-      added p (inl i) = in_left a (in_right k i)
-      added p (inr g) = in_right (bit_or k f) (ground_all p g)
+-- a table that was worked in place, by the masks f and k of what stays and a of what is ground now
+pub bound_of :
+    (n : ℕ) (old : List ℕ) (was : Marks) (x : ℕ) (t : Term) (c : Case) (new : List ℕ) (f k a : ℕ)
+    → Fits (told_of n old was) x t c
+    → ((u : ℕ) → 0 < u → u < 2 ^ n → Decides (holds_bit new u) (NewGroup (TableGroup n old) (2 ^ x) t.held c u))
+    → ((p : ℕ) → In p f ↔ StaysFree (told_of n old was) x t p)
+    → ((p : ℕ) → In p k ↔ StaysLinear (told_of n old was) x t p)
+    → ((p : ℕ) → In p a ↔ IsGround n (TableGroup n new) p)
+    → Bound (told_of n old was) x t (told_of n new (record { free = f; linear = bit_or (bit_or k f) a }))
+bound_of n old was x t c new f k a fits bits free linear ground =
+    record {
+      positions = refl;
+      case = c;
+      fits = fits;
+      groups_made = λ g m.
+          let r = new_range d (λ g m. let r = of_group n old g m in (r.0, r.1)) (2 ^ x) t.held c m in
+          group_of n new g r.0 r.1 ((bits g r.0 r.1).1 m);
+      groups_only = λ g m. let r = of_group n new g m in (bits g r.0 r.1).0 r.2;
+      free_kept = λ p s. (free p).1 s;
+      free_only = λ p i. (free p).0 i;
+      linear_kept = λ p s. in_left a (in_left f ((linear p).1 s));
+      linear_added = λ p s. added p s;
+      linear_only = λ p i. only p (in_either (bit_or k f) a i);
+    }
+  where
+    d : Told
+    d = told_of n old was
 
-      only : (p : ℕ) → In p (bit_or k f) ⊎ In p a → StaysLinear d x t p ⊎ (In p f ⊎ Ground (told_of d.n bits f l) p)
-      only p (inl i) = elim (in_either k f i) [ inl j ↦ inl (linear_only p j) | inr j ↦ inr (inl j) ]
-      only p (inr i) = inr (inr (ground_made p i))
+    added : (p : ℕ) → In p f ⊎ IsGround n (TableGroup n new) p → In p (bit_or (bit_or k f) a)
+    added p (inl i) = in_left a (in_right k i)
+    added p (inr g) = in_right (bit_or k f) ((ground p).1 g)
 
--- the same of a table that is worked in place
-pub bound_made :
-    (n : ℕ) (old : List ℕ) (was_free was_linear x : ℕ) (t : Term) (s : Signs) (c : Case) (bits : List ℕ) (f k a : ℕ)
-    → Seen (told_of n old was_free was_linear) x t s
-    → Chosen s c
-    → ((u : ℕ) → 0 < u → u < 2 ^ n → Decides (holds_bit bits u) (NewGroup (Group (told_of n old was_free was_linear)) x t.held c u))
-    → ((p : ℕ) → StaysFree (told_of n old was_free was_linear) x t p → In p f)
-    → ((p : ℕ) → In p f → StaysFree (told_of n old was_free was_linear) x t p)
-    → ((p : ℕ) → StaysLinear (told_of n old was_free was_linear) x t p → In p k)
-    → ((p : ℕ) → In p k → StaysLinear (told_of n old was_free was_linear) x t p)
-    → ((g l p : ℕ) → In p a → Ground (told_of n bits g l) p)
-    → ((g l p : ℕ) → Ground (told_of n bits g l) p → In p a)
-    → Bound (told_of n old was_free was_linear) x t (told_of n bits f (bit_or (bit_or k f) a))
-bound_made n old was_free was_linear x t s c bits f k a seen chosen new free_kept free_only linear_kept linear_only ground_made ground_all =
-    let d = told_of n old was_free was_linear in
-    let l = bit_or (bit_or k f) a in
-    bound_of d (λ g m. let r = of_group n old was_free was_linear g m in (r.0, r.1)) x t c bits f k a l (fits_of d x t s c seen chosen) new
-    free_kept free_only linear_kept linear_only (ground_made f l) (ground_all f l) refl
+    only : (p : ℕ) → In p (bit_or k f) ⊎ In p a → StaysLinear (told_of n old was) x t p ⊎ (In p f ⊎ IsGround n (TableGroup n new) p)
+    only p (inl i) = elim (in_either k f i) [ inl j ↦ inl ((linear p).0 j) | inr j ↦ inr (inl j) ]
+    only p (inr i) = inr (inr ((ground p).0 i))

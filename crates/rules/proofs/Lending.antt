@@ -1,41 +1,57 @@
--- A rule on a lent table that holds what a description tells: its tests are those of the description.
-use Rattle.std.proofs.Common.{◌≡◌, ℕ, ◌<◌, ◌≤◌, Bool, ◌||◌, eqb, ltb, List, length, Some, None, Ok, Err, Option, sym, ap, ◌∙◌, subst, arith}
+-- A change on a lent table that holds what a description tells: its tests are those of the description.
+use Rattle.std.proofs.Common.{◌≡◌, ℕ, ◌<◌, ◌≤◌, Bool, true, false, ◌||◌, ◌++◌, eqb, ltb, List, length, Some, None, Ok, Err, Option, Result, sym, ap, ◌∙◌, subst, arith}
 use Rattle.std.proofs.lemmas.Bool.{ne_eqb, le-ltb, or_from}
-use Rattle.domain.specs.Refusals.{pick}
-use Rattle.domain.specs.Requests.{Gives}
+use Rattle.domain.specs.Changes.{Makes, change_tests}
+use Rattle.domain.specs.Refusals.{pick, first_of}
+use Rattle.domain.specs.Requests.{Gives, open_tests, bytes_for}
 use Rattle.domain.specs.Tables.{told_with}
 use Rattle.domain.specs.Told.{Told}
-use Rattle.domain.specs.declared.marks.Marks.{Marks}
+use Rattle.domain.specs.declared.change.Change.{Change}
+use Rattle.domain.specs.declared.limits.TheConstants.{MOST_POSITIONS}
+use Rattle.domain.specs.declared.outline.Outline.{Outline}
 use Rattle.domain.specs.declared.refusal.Refusal.{Refusal}
 use Rattle.domain.specs.declared.refusal.Refusal.TheVariants.{Count}
-pub use Rattle.domain.proofs.Refusing.{gave}
+use Rattle.domain.proofs.ChangeLaws.{change_allowed}
+use Rattle.domain.proofs.Refusing.{gave}
 
 -- a description has no more and no fewer positions than a table may have
-pub counted_told : (n : ℕ) (o : Option Refusal) → 0 < n → n < 13 → pick (eqb n 0 || ltb 12 n) Count o ≡ o
+pub counted_told : (n : ℕ) (o : Option Refusal) → 0 < n → n ≤ MOST_POSITIONS → pick (eqb n 0 || ltb MOST_POSITIONS n) Count o ≡ o
 counted_told n o some few =
     ap (λ (b : Bool). pick b Count o)
-    (or_from (eqb n 0) (ltb 12 n) (ne_eqb n 0 (λ e. omega arith)) (le-ltb 12 n (omega arith)))
+    (or_from (eqb n 0) (ltb MOST_POSITIONS n) (ne_eqb n 0 (λ e. omega arith)) (le-ltb MOST_POSITIONS n few))
+
+-- what is said of a value, by what is said of it beside
+pub gives_like : {A : Type 0} {P Q : A → Type 0} (o : Option Refusal) (r : Result A Refusal) → ((x : A) → P x → Q x) → Gives o r P → Gives o r Q
+gives_like None (Ok x) f h = f x h
+gives_like None (Err e) f h = h
+gives_like (Some e) r f h = h
 
 pub refusal_given : {A : Type 0} (o : Option Refusal) (e : Refusal) (P : A → Type 0) → Gives o (Err e) P → o ≡ Some e
 refusal_given None e P h = absurd h
 refusal_given (Some x) e P h = (let q = h in cc)
 
-module _ (Rule : Told → Told → Type 0) (tests : ℕ → ℕ → Option Refusal) (b : Marks) (d : Told) (laid : List ℕ) (len : ℕ)
-    (some : 0 < d.n) (few : d.n < 13) (positions : b.positions ≡ d.n) (long : length laid ≡ len) where
-  given_tests : pick (eqb b.positions 0 || ltb 12 b.positions) Count (tests b.positions (length laid)) ≡ tests d.n len
+-- a refusal by the tests that come after the number of positions
+pub refused_later : {A B : Type 0} (P : A → Type 0) (Q : B → Type 0) (b : Bool) (o : Option Refusal) (x : A) (e : Refusal) (r : Result B Refusal)
+    → Gives (pick b Count None) (Ok x) P → o ≡ Some e → r ≡ Err e → Gives (pick b Count o) r Q
+refused_later P Q true o x e r counted refused is = absurd (let q = counted in cc)
+refused_later P Q false o x e r counted refused is = rw refused is
+
+module _ (c : Change (List ℕ)) (o : Outline) (d : Told) (laid : List ℕ) (bytes : ℕ)
+    (some : 0 < d.n) (few : d.n ≤ MOST_POSITIONS) (positions : o.positions ≡ d.n) (long : length laid ≡ bytes) where
+  given_tests : first_of (open_tests o.positions ++ change_tests o.positions c (length laid)) ≡ first_of (change_tests d.n c bytes)
   given_tests =
-      counted_told b.positions (tests b.positions (length laid)) (rw positions some) (rw positions few)
-      ∙ ap (λ (n : ℕ). tests n (length laid)) positions ∙ ap (λ (k : ℕ). tests d.n k) long
+      counted_told o.positions (first_of (change_tests o.positions c (length laid))) (rw positions some) (rw positions few)
+      ∙ ap (λ (n : ℕ). first_of (change_tests n c (length laid))) positions ∙ ap (λ (k : ℕ). first_of (change_tests d.n c k)) long
 
-  pub rule_made : (None ≡ tests d.n len → 512 ≤ len) → (512 ≤ len → told_with b laid ≡ d) → (m : Marks) (table : List ℕ)
-      → Gives (pick (eqb b.positions 0 || ltb 12 b.positions) Count (tests b.positions (length laid))) (Ok m) (λ x. Rule (told_with b laid) (told_with x table))
-      → (tests d.n len ≡ None) × Rule d (told_with m table)
-  rule_made room told m table h =
-      let g = gave _ m (λ x. Rule (told_with b laid) (told_with x table)) h in
-      let none : tests d.n len ≡ None = sym given_tests ∙ g.0 in
-      (none, subst (λ (d : Told). Rule d (told_with m table)) (told (room (sym none))) g.1)
+  pub change_given : (bytes_for d.n ≤ bytes → told_with o laid ≡ d) → (x : Outline) (table : List ℕ)
+      → Gives (first_of (open_tests o.positions ++ change_tests o.positions c (length laid))) (Ok x) (λ y. Makes c (told_with o laid) (told_with y table))
+      → (first_of (change_tests d.n c bytes) ≡ None) × Makes c d (told_with x table)
+  change_given told x table h =
+      let g = gave _ x (λ y. Makes c (told_with o laid) (told_with y table)) h in
+      let none : first_of (change_tests d.n c bytes) ≡ None = sym given_tests ∙ g.0 in
+      (none, subst (λ (d : Told). Makes c d (told_with x table)) (told (change_allowed d.n c bytes (sym none)).1) g.1)
 
-  pub rule_refusal : (e : Refusal) (table : List ℕ)
-      → Gives (pick (eqb b.positions 0 || ltb 12 b.positions) Count (tests b.positions (length laid))) (Err e) (λ x. Rule (told_with b laid) (told_with x table))
-      → tests d.n len ≡ Some e
-  rule_refusal e table h = sym given_tests ∙ refusal_given _ e (λ x. Rule (told_with b laid) (told_with x table)) h
+  pub change_refused : (e : Refusal) (table : List ℕ)
+      → Gives (first_of (open_tests o.positions ++ change_tests o.positions c (length laid))) (Err e) (λ y. Makes c (told_with o laid) (told_with y table))
+      → first_of (change_tests d.n c bytes) ≡ Some e
+  change_refused e table h = sym given_tests ∙ refusal_given _ e (λ y. Makes c (told_with o laid) (told_with y table)) h

@@ -1,7 +1,7 @@
 -- Whether a mask is made depends only on the groups inside it.
 use Rattle.std.proofs.Common.{ℕ}
 use Rattle.domain.specs.Masks.{Within}
-use Rattle.domain.specs.Groups.{XGroup, TGroup, Shared, Paired, Closure, Extended}
+use Rattle.domain.specs.Groups.{Shared, Paired, Closure, Extended}
 use Rattle.domain.specs.Groups.Closure.{one, more}
 use Rattle.domain.specs.Groups.Extended.{alone, joined}
 use Rattle.domain.specs.Binding.{Made, NewGroup}
@@ -37,24 +37,21 @@ extended_local : {A B S T : ℕ → Type 0} {u : ℕ} → Local u A B → Local 
 extended_local f s g w (alone a) = alone (f g w a)
 extended_local f s g w (joined p) = joined (pair_local f (closed_local s) g w p)
 
-module _ (G H : ℕ → Type 0) (x v u : ℕ) (same : Local u G H) where
-  x_local : Local u (XGroup G x) (XGroup H x)
-  x_local g w m = record { group = same g w m.group; holds = m.holds }
+module _ (G H : ℕ → Type 0) (a b u : ℕ) (same : Local u G H) where
+  shared_local : (c d : ℕ) → Local u (Shared G c d) (Shared H c d)
+  shared_local c d g w m = record { group = same g w m.group; left = m.left; right = m.right }
 
-  t_local : Local u (TGroup G v) (TGroup H v)
-  t_local g w m = record { group = same g w m.group; meets = m.meets }
+  made_local : (c : Case) → Made G a b c u → Made H a b c u
+  made_local Free m = pair_local (shared_local a a) (shared_local b b) u (within_self u) m
+  made_local BothLinear m =
+      pair_local (extended_local (shared_local a a) (shared_local a b)) (extended_local (shared_local b b) (shared_local a b)) u (within_self u) m
+  made_local PositionLinear m =
+      pair_local (closed_local (shared_local a a)) (extended_local (shared_local b b) (shared_local a b)) u (within_self u) m
+  made_local TermLinear m =
+      pair_local (extended_local (shared_local a a) (shared_local a b)) (closed_local (shared_local b b)) u (within_self u) m
+  made_local Neither m = pair_local (closed_local (shared_local a a)) (closed_local (shared_local b b)) u (within_self u) m
 
-  s_local : Local u (Shared G x v) (Shared H x v)
-  s_local g w m = record { group = same g w m.group; holds = m.holds; meets = m.meets }
-
-  made_local : (c : Case) → Made G x v c u → Made H x v c u
-  made_local Free m = pair_local x_local t_local u (within_self u) m
-  made_local BothLinear m = pair_local (extended_local x_local s_local) (extended_local t_local s_local) u (within_self u) m
-  made_local PositionLinear m = pair_local (closed_local x_local) (extended_local t_local s_local) u (within_self u) m
-  made_local TermLinear m = pair_local (extended_local x_local s_local) (closed_local t_local) u (within_self u) m
-  made_local Neither m = pair_local (closed_local x_local) (closed_local t_local) u (within_self u) m
-
-  pub new_local : (c : Case) → NewGroup G x v c u → NewGroup H x v c u
+  pub new_local : (c : Case) → NewGroup G a b c u → NewGroup H a b c u
   new_local c (rest r) =
-      rest (record { group = same u (within_self u) r.group; without = r.without; apart = r.apart })
+      rest (record { group = same u (within_self u) r.group; left = r.left; right = r.right })
   new_local c (made m) = made (made_local c m)

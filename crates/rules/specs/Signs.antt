@@ -1,18 +1,24 @@
 -- What the bind rule asks of the position and of the term, as answers of yes and no.
-use Rattle.std.specs.Prelude.{◌≡◌, ℕ, true, false, ◌⊎◌, Decides}
-use Rattle.domain.specs.Told.{Told}
-use Rattle.domain.specs.Binding.{FreePosition, LinearPosition, FreeTerm, LinearTerm}
+use Rattle.std.specs.Prelude.{◌≡◌, ℕ, ◌^◌, ◌<◌, true, false, ◌↔◌, ◌⊎◌, IsTrue, count_ones}
+use Rattle.domain.specs.Binding.{FreeTerm, LinearTerm}
+use Rattle.domain.specs.Told.{Told, IsFree, IsLinear}
 use Rattle.domain.specs.declared.case.Case.{Case}
 use Rattle.domain.specs.declared.case.Case.TheVariants.{Free, BothLinear, PositionLinear, TermLinear, Neither}
-use Rattle.rules.specs.declared.rule.signs.Signs.{Signs}
 use Rattle.domain.specs.declared.term.Term.{Term}
+use Rattle.rules.specs.declared.rule.sides.Signs.{Signs}
+
+-- a bind of the position x to the term t that a description of n positions does not refuse
+pub record IsBindable (n x : ℕ) (t : Term) : Type 0 where
+  pub position : x < n
+  pub held : t.held < 2 ^ n
+  pub bare : t.bare ≡ true → count_ones t.held ≡ 1
 
 -- the answers are those for the position x and the term t
 pub record Seen (d : Told) (x : ℕ) (t : Term) (s : Signs) : Type 0 where
-  pub position_free : Decides s.position.free (FreePosition d x)
-  pub position_linear : Decides s.position.linear (LinearPosition d x)
-  pub term_free : Decides s.term.free (FreeTerm d t)
-  pub term_linear : Decides s.term.linear (LinearTerm d t)
+  pub position_free : IsTrue s.position.free ↔ IsFree d x
+  pub position_linear : IsTrue s.position.linear ↔ IsLinear d x
+  pub term_free : IsTrue s.term.free ↔ FreeTerm d t
+  pub term_linear : IsTrue s.term.linear ↔ LinearTerm d t
 
 -- c is the first case that the answers allow
 abbrev pub Chosen : Signs → Case → Type 0

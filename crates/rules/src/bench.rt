@@ -1,34 +1,42 @@
-// A lent table that a rule is worked on in place, with room for the masks of 12 positions. Each method that writes
-// says that the table is still the one lent: a fact of its start and end, which no type holds.
-ghost use Rattle.std.specs.Prelude.{◌≡◌, ◌<◌, ◌≤◌, length};
+//! A lent table with what is known beside it, to be read or to be worked on.
+ghost use Rattle.std.specs.Prelude.{◌≡◌, ◌≤◌, length};
+ghost use Rattle.domain.specs.Requests.{bytes_for};
+ghost use Rattle.domain.specs.declared.limits.TheConstants.{MOST_POSITIONS};
 
 use crate::groups::Groups;
-use crate::view::View;
 use domain::marks::Marks;
+use domain::outline::Outline;
 
+// A lent table and the marks beside it, to be read.
+#[derive(Clone, Copy)]
+pub(crate) struct View<'a> {
+    pub(crate) groups: Groups<'a>,
+    pub(crate) marks: Marks,
+}
+
+// A lent table that a rule is worked on in place, with room for all masks of its positions. Each method
+// that writes says that the table is still the one lent.
 #[derive(Drop)]
 pub(crate) struct Bench<'a> {
     pub(crate) table: &'a mut [u8],
-    pub(crate) marks: Marks,
-    ghost few: { marks.positions < 13 },
-    ghost room: { 512 ≤ length table.now },
+    pub(crate) outline: Outline,
+    ghost few: { outline.positions ≤ MOST_POSITIONS },
+    ghost room: { bytes_for outline.positions ≤ length table.now },
 }
 
 impl Bench<'_> {
-    // The table as it stands, to be read.
+    // The table as it stands.
     pub(crate) fn view(&self) -> View<'_>
         ensures table { result.groups.table.now ≡ self.now.table.now }
-        ensures positions { result.groups.positions ≡ self.now.marks.positions }
-        ensures free { result.free ≡ self.now.marks.free }
-        ensures linear { result.linear ≡ self.now.marks.linear }
+        ensures positions { result.groups.positions ≡ self.now.outline.positions }
+        ensures marks { result.marks ≡ self.now.outline.marks }
     {
         View {
             groups: Groups {
                 table: self.table,
-                positions: self.marks.positions,
+                positions: self.outline.positions,
             },
-            free: self.marks.free,
-            linear: self.marks.linear,
+            marks: self.outline.marks,
         }
     }
 }

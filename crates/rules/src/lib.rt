@@ -1,13 +1,9 @@
-// The rules of bind, join and forget, worked in place on a lent table of groups.
+//! The rules of bind, join and forget, worked in place on a lent table of groups.
 #![tactic(auto)]
 
 mod bench;
 mod groups;
 pub mod lent;
-mod mask;
-mod reach;
 mod rule;
 #[cfg(test)]
 mod tests;
-mod view;
-pub mod work;

@@ -3,10 +3,9 @@ use crate::CAPACITY;
 use console::run_sheet;
 use domain::listing::Listing;
 use domain::refusal::Refusal;
-use keeper::fault::KeeperFault;
-use keeper::keeper::Keeper;
+use keeper::{Keeper, KeeperFault};
 use list_keeper::ListKeeper;
-use roll::roll::Roll;
+use roll::Roll;
 use std::test::Fail;
 
 // The first 52 pairs of positions, ascending.

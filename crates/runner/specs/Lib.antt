@@ -1,5 +1,7 @@
-pub mod Running
+pub mod Settings
+pub mod Following
 pub mod Serving
+pub mod Running
 pub mod Playing
 pub mod Meaning
 pub mod Turning

@@ -4,11 +4,12 @@ use Rattle.domain.specs.Coverage.{Alike}
 use Rattle.domain.specs.Told.{Told}
 use Rattle.domain.specs.declared.refusal.Refusal.TheVariants.{Capacity}
 use Rattle.keeper.specs.Calls.{fault_of}
-use Rattle.runner.specs.Playing.{Plays}
-use Rattle.runner.specs.Running.{script_of}
 use Rattle.sheet.specs.declared.fault.RunnerFault.TheVariants.{Keeper}
 use Rattle.sheet.specs.declared.fault.SheetFault.{SheetFault}
 use Rattle.sheet.specs.declared.mark.StepMark.{StepMark}
+use Rattle.runner.specs.Playing.{Plays}
+use Rattle.runner.specs.Running.{script_of}
+use Rattle.runner.specs.Settings.{Setting, Transition}
 
 -- no keeper is open, or both tell alike descriptions
 abbrev pub Matched : Told → Told → Type 0
@@ -20,10 +21,10 @@ HadRoom r = (f : SheetFault) → r ≡ Err f → f.cause ≢ Keeper (fault_of Ca
 
 -- Where a run from an unopened keeper does not end for want of capacity, every keeper of that capacity or
 -- more that plays the sheet writes the same marks, ends in the same way and tells an alike description.
-abbrev pub SameEverywhere : ℕ → ℕ → List ℕ → ℕ → Told → Told → List StepMark → List StepMark → Result ℕ SheetFault → Type 0
-SameEverywhere capacity scratch sheet groups before after marks marks' r =
-    before.n ≡ 0 → HadRoom r
-    → (larger : ℕ) (before' after' : Told) (written : List StepMark) (r' : Result ℕ SheetFault)
-    → capacity ≤ larger → before'.n ≡ 0
-    → Plays larger scratch sheet (script_of sheet groups (length marks)) 0 before' written r' after'
-    → (marks' ≡ written ++ drop (length written) marks) × (r ≡ r') × Matched after after'
+abbrev pub SameEverywhere : Setting → Transition → List StepMark → List StepMark → Result ℕ SheetFault → Type 0
+SameEverywhere s t marks marks' r =
+    t.before.n ≡ 0 → HadRoom r
+    → (larger : ℕ) (u : Transition) (written : List StepMark) (r' : Result ℕ SheetFault)
+    → s.capacity ≤ larger → u.before.n ≡ 0
+    → Plays (record s { capacity = larger }) (script_of s.sheet s.groups (length marks)) 0 u.before written r' u.after
+    → (marks' ≡ written ++ drop (length written) marks) × (r ≡ r') × Matched t.after u.after

@@ -1,8 +1,10 @@
-// The runner: hands the steps of a sheet to any keeper, one by one, up to the first refusal. Each function
-// that takes a keeper says that its capacity stays, and each that takes the roll of marks that its memory is the one
-// lent: facts of a value before and after, which no type can hold.
+//! The runner: hands the steps of a sheet to any keeper, one by one, up to the first refusal.
 #![tactic(auto)]
 
-pub mod run;
+mod next;
+mod running;
 mod serve;
+mod state;
 mod turn;
+
+pub use running::{WorkLists, run};

@@ -1,17 +1,17 @@
-// One turn of the runner: a step is read, handed to the keeper and marked.
+//! One turn of the runner: a step is read, handed to the keeper and marked.
 ghost use Rattle.std.specs.Prelude.{◌≡◌, ◌+◌, ◌<◌, ◌≤◌, length, IfOk};
-ghost use Rattle.roll.specs.Views.{slots};
+ghost use Rattle.roll.specs.Views.{loan_of, slots};
+ghost use Rattle.sheet.specs.declared.steps.TheConstants.{LONGEST_SHEET};
+ghost use Rattle.runner.specs.Following.{next_at};
 ghost use Rattle.runner.specs.Turning.{Marked, Turns};
-ghost use Rattle.reader.specs.Following.{next_at};
 
+use crate::next::next_step;
 use crate::serve::serve;
+use crate::state::State;
 use domain::refusal::Refusal;
-use keeper::keeper::Keeper;
-use reader::next::next_step;
-use reader::state::State;
-use roll::roll::Roll;
-use sheet::fault::RunnerFault;
-use sheet::mark::StepMark;
+use keeper::Keeper;
+use roll::Roll;
+use sheet::{LONGEST_SHEET, RunnerFault, StepMark};
 
 // Where a runner stands: its state, the place of the next record and the number of the next step.
 #[derive(Clone, Copy)]
@@ -31,23 +31,33 @@ pub(crate) fn take_step<K: Keeper>(
     scratch: &mut [u8],
 ) -> Result<Cursor, RunnerFault>
     requires more { cursor.at < length sheet.now }
-    requires short { length sheet.now ≤ 65535 }
+    requires short { length sheet.now ≤ LONGEST_SHEET }
     requires marked { Marked cursor marks.old }
-    ensures turns { Turns (K.Keeper.capacity keeper.old) (length scratch.old) sheet.now (length groups.old) cursor (next_at sheet.now cursor.state cursor.at) (K.Keeper.told keeper.old) (K.Keeper.told keeper.new) (slots marks.old) (slots marks.new) result }
-    ensures onward { IfOk result (λ c. (cursor.at < c.at) × (c.at ≤ length sheet.now) × (c.step ≡ cursor.step + 1)) }
+    ensures turns { Turns
+        (record {
+          capacity = K.Keeper.capacity keeper.old;
+          scratch = length scratch.old;
+          sheet = sheet.now;
+          groups = length groups.old;
+        })
+        cursor (next_at sheet.now cursor.state cursor.at)
+        (record { before = K.Keeper.told keeper.old; after = K.Keeper.told keeper.new })
+        (slots marks.old) (slots marks.new) result }
+    ensures onward { IfOk result (λ c. cursor.at < c.at) }
+    ensures inside { IfOk result (λ c. c.at ≤ length sheet.now) }
     ensures marked { IfOk result (λ c. Marked c marks.new) }
     ensures long { length (slots marks.new) ≡ length (slots marks.old) }
-    ensures lent { marks.new.entries.ghost_name ≡ marks.old.entries.ghost_name }
+    ensures lent { loan_of marks.new ≡ loan_of marks.old }
     ensures same_capacity { K.Keeper.capacity keeper.new ≡ K.Keeper.capacity keeper.old }
 {
     let next = next_step(sheet, cursor.state, cursor.at)?;
-    if marks.len() >= marks.capacity() || next.step.groups() > groups.len() {
+    if marks.len() >= marks.capacity() || next.step.group_count() > groups.len() {
         return Err(RunnerFault::Runner(Refusal::Room));
     }
     let answer = serve(keeper, sheet, next.step, groups, scratch)?;
     // there is room, and no earlier mark has this place
     let _ = marks.add(StepMark {
-        // the cast narrows; it is proved to fit, so there is no error to give
+        // the cast narrows; it is proved to fit
         place: cursor.at as u16,
         kind: next.step.kind(),
         answer,

@@ -1,7 +1,9 @@
 -- The kinds of steps, each with its number and its printed name.
-use Rattle.std.specs.Prelude.{ℕ, cond, List, [], ◌∷◌, Some, None, codes, Option, ◌==◌}
-use Rattle.sheet.specs.declared.step.StepKind.{StepKind}
-use Rattle.sheet.specs.declared.step.StepKind.TheVariants.{Open, Bind, Join, Forget, Ask, End}
+use Rattle.std.specs.Prelude.{ℕ, if◌then◌else◌, List, [], ◌∷◌, Some, None, codes, Option, ◌==◌}
+use Rattle.domain.specs.declared.change.Change.{Change}
+use Rattle.domain.specs.declared.change.Change.TheVariants as change
+use Rattle.sheet.specs.declared.kind.StepKind.{StepKind}
+use Rattle.sheet.specs.declared.kind.StepKind.TheVariants.{Open, Bind, Join, Forget, Ask, End}
 
 abbrev pub step_number : StepKind → ℕ
 step_number Open = 1
@@ -22,7 +24,13 @@ step_name End = codes "end"
 -- the first of some kinds that has the number
 abbrev pub numbered : {K : Type 0} → (K → ℕ) → List K → ℕ → Option K
 numbered number [] n = None
-numbered number (k ∷ ks) n = cond (n == number k) (Some k) (numbered number ks n)
+numbered number (k ∷ ks) n = (if n == number k then Some k else numbered number ks n)
 
 abbrev pub step_kind : ℕ → Option StepKind
 step_kind n = numbered step_number (Open ∷ (Bind ∷ (Join ∷ (Forget ∷ (Ask ∷ (End ∷ [])))))) n
+
+-- the kind of a step that makes this change
+abbrev pub change_kind : {G : Type 0} → Change G → StepKind
+change_kind (change.Bind x t) = Bind
+change_kind (change.Join other) = Join
+change_kind (change.Forget m) = Forget

@@ -1,32 +1,31 @@
 -- Steps: the kind of each, and the groups that it has on its sheet.
-use Rattle.std.specs.Prelude.{ℕ, ◌+◌, ◌*◌, ◌≤◌, List, length}
-use Rattle.sheet.specs.declared.step.Step.{Step}
-use Rattle.sheet.specs.declared.step.Step.TheVariants as step
-use Rattle.sheet.specs.declared.step.StepKind.{StepKind}
-use Rattle.sheet.specs.declared.step.StepKind.TheVariants.{Open, Bind, Join, Forget, Ask, End}
+use Rattle.std.specs.Prelude.{ℕ, ◌+◌, ◌*◌, ◌≤◌, List, length, IfSome, None, Option}
+use Rattle.std.specs.Option.{option_map_or}
+use Rattle.domain.specs.Changes.{groups_in}
+use Rattle.sheet.specs.Kinds.{change_kind}
+use Rattle.sheet.specs.declared.kind.StepKind.{StepKind}
+use Rattle.sheet.specs.declared.kind.StepKind.TheVariants as kind
+use Rattle.sheet.specs.declared.steps.Span.{Span}
+use Rattle.sheet.specs.declared.steps.Step.{Step}
+use Rattle.sheet.specs.declared.steps.Step.TheVariants.{Open, Change, Ask, End}
 
 abbrev pub kind_of : Step → StepKind
-kind_of (step.Open n) = Open
-kind_of (step.Bind p t) = Bind
-kind_of (step.Join free linear start count) = Join
-kind_of (step.Forget m) = Forget
-kind_of (step.Ask q) = Ask
-kind_of step.End = End
+kind_of (Open n) = kind.Open
+kind_of (Change c) = change_kind c
+kind_of (Ask q) = kind.Ask
+kind_of End = kind.End
 
--- how many groups the step has for the runner to copy
+-- where on its sheet the step's groups lie, if it has any
+abbrev pub span_of : Step → Option Span
+span_of (Open n) = None
+span_of (Change c) = groups_in c
+span_of (Ask q) = None
+span_of End = None
+
+-- how many they are
 abbrev pub group_count : Step → ℕ
-group_count (step.Open n) = 0
-group_count (step.Bind p t) = 0
-group_count (step.Join free linear start count) = count
-group_count (step.Forget m) = 0
-group_count (step.Ask q) = 0
-group_count step.End = 0
+group_count s = option_map_or (λ span. span.count) (span_of s) 0
 
--- those groups lie on the sheet
-abbrev pub Inside : List ℕ → Step → Type 0
-Inside bytes (step.Open n) = Unit {0}
-Inside bytes (step.Bind p t) = Unit {0}
-Inside bytes (step.Join free linear start count) = start + 2 * count ≤ length bytes
-Inside bytes (step.Forget m) = Unit {0}
-Inside bytes (step.Ask q) = Unit {0}
-Inside bytes step.End = Unit {0}
+-- they lie on the sheet
+abbrev pub LiesOn : List ℕ → Step → Type 0
+LiesOn sheet s = IfSome (span_of s) (λ span. span.start + 2 * span.count ≤ length sheet)

@@ -1,4 +1,4 @@
-// Faults: the reader's, the runner's and the sheet's. Each one holds the one below whole.
+//! Faults: the reader's, the runner's and the sheet's. Each one holds the one below whole.
 ghost use Rattle.std.specs.Prelude.{◌≡◌, ◌↔◌, IsTrue};
 ghost use Rattle.std.specs.Cmp.Rules.{comparing};
 ghost use Rattle.sheet.specs.contracts.fault.RefusedEq.TheImpl.Laws.{laws-law};
@@ -6,23 +6,25 @@ ghost use Rattle.sheet.specs.Faults.{number_in, layer_in, fault_at, refused_of, 
 ghost use Rattle.sheet.specs.declared.fault.RunnerFault.TheVariants.{Reader, Keeper};
 
 use domain::refusal::{Layer, Refusal};
-use keeper::fault::KeeperFault;
+use keeper::KeeperFault;
 
-// The reader's fault, with the place of the innermost record that is wrong.
+/// The reader's fault.
 #[derive(Clone, Copy, PartialEq, Eq, Debug)]
 pub struct ReaderFault {
+    /// what was refused
     pub refusal: Refusal,
+    /// the byte at which the innermost record that is wrong starts
     pub place: usize,
 }
 
-// Why the runner stops at a step.
+/// Why the runner stops at a step.
 #[derive(Clone, Copy, PartialEq, Eq, Debug)]
 pub enum RunnerFault {
-    // the sheet cannot be read there
+    /// the sheet cannot be read there
     Reader(ReaderFault),
-    // the step is out of order, or a work list is full
+    /// the step is out of order, or a work list is full
     Runner(Refusal),
-    // the keeper refuses
+    /// the keeper refuses
     Keeper(KeeperFault),
 }
 
@@ -43,7 +45,7 @@ impl From<KeeperFault> for RunnerFault {
 }
 
 impl RunnerFault {
-    // The fault on the sheet: a reader's fault has a place of its own, any other stands at its step's.
+    /// The fault on the sheet: a reader's fault has a place of its own, any other stands at its step's.
     pub fn at(self, step: usize, place: usize) -> SheetFault
         ensures { result ≡ fault_at self step place }
     {
@@ -59,26 +61,32 @@ impl RunnerFault {
     }
 }
 
-// A fault on a sheet: what was refused, at which step (from 0) and at which byte.
+/// A fault on a sheet.
 #[derive(Clone, Copy, Debug)]
 pub struct SheetFault {
+    /// why the runner stopped
     pub cause: RunnerFault,
+    /// at which step, from 0
     pub step: usize,
+    /// at which byte
     pub place: usize,
 }
 
-// What is told of a refusal: its number, its byte, its step and who refuses.
+/// What is told of a refusal.
 #[derive(Clone, Copy, PartialEq, Eq, Debug)]
 pub struct Refused {
-    // any number can be printed, so it is no `Refusal`
+    /// the refusal's number in the table
     pub number: u8,
+    /// at which byte
     pub place: usize,
+    /// at which step, from 0
     pub step: usize,
+    /// who refuses
     pub layer: Layer,
 }
 
 impl SheetFault {
-    // What is told of the fault.
+    /// What is told of the fault.
     pub fn refused(&self) -> Refused
         ensures { result ≡ refused_of self.now }
     {
@@ -90,7 +98,7 @@ impl SheetFault {
         }
     }
 
-    // The refusal's number.
+    /// The refusal's number.
     pub fn number(&self) -> u8
         ensures { result ≡ number_in self.now.cause }
     {
@@ -101,7 +109,7 @@ impl SheetFault {
         }
     }
 
-    // Who refused.
+    /// Who refused.
     pub fn layer(&self) -> Layer
         ensures { result ≡ layer_in self.now.cause }
     {
@@ -113,7 +121,7 @@ impl SheetFault {
     }
 }
 
-// Two faults are the same when the same is told of both: a derive would compare their causes too.
+/// Two faults are the same when the same is told of both, whatever their causes.
 impl PartialEq for SheetFault {
     ghost eq = { fault_eq };
 

@@ -1,19 +1,27 @@
+//! The marks of steps.
 ghost use Rattle.std.specs.Prelude.{◌≡◌};
 ghost use Rattle.sheet.specs.Marks.{blank_mark};
 
-use crate::step::StepKind;
-use roll::key::Keyed;
+use crate::kind::StepKind;
+use crate::steps::LONGEST_SHEET;
+use roll::Keyed;
 
-// What was done with one step: its byte place, its kind, and whether it was accepted or answered yes.
+/// What was done with one step.
 #[derive(Clone, Copy, PartialEq, Eq, Debug)]
 pub struct StepMark {
+    /// the byte at which the step starts
     pub place: u16,
+    /// the step's kind
     pub kind: StepKind,
+    /// whether the step was accepted, or answered yes
     pub answer: bool,
 }
 
+// A mark can hold every place of a sheet, and no place beyond.
+const _: () = prove!(LONGEST_SHEET == u16::MAX as usize);
+
 impl StepMark {
-    // A mark to fill a list with.
+    /// A mark to fill a list with.
     pub fn blank() -> StepMark
         ensures { result ≡ blank_mark }
     {
@@ -25,7 +33,7 @@ impl StepMark {
     }
 }
 
-// A mark is found by its place.
+/// A mark is found by its place.
 impl Keyed for StepMark {
     type Key = u16;
 

@@ -1,4 +1,4 @@
-// How a mark, a refusal and a fault are shown.
+//! How a mark, a refusal and a fault are shown.
 ghost use Rattle.std.specs.Prelude.{◌≡◌, Some};
 ghost use Rattle.sheet.specs.Shown.{answer_name, fault_text, mark_text, refused_text};
 
@@ -6,7 +6,7 @@ use crate::fault::{Refused, SheetFault};
 use crate::mark::StepMark;
 use std::fmt;
 
-// Place, kind and answer of a step that was done.
+/// Place, kind and answer of a step that was done.
 impl fmt::Display for StepMark {
     ghost output = { λ m. Some (mark_text m) };
 
@@ -21,7 +21,7 @@ impl fmt::Display for StepMark {
     }
 }
 
-// What was refused, where, and by whom.
+/// What was refused, where, and by whom.
 impl fmt::Display for Refused {
     ghost output = { λ r. Some (refused_text r) };
 
@@ -36,7 +36,7 @@ impl fmt::Display for Refused {
     }
 }
 
-// A fault is shown by what is told of it.
+/// A fault is shown by what is told of it.
 impl fmt::Display for SheetFault {
     ghost output = { λ f. Some (fault_text f) };
 
@@ -45,7 +45,7 @@ impl fmt::Display for SheetFault {
     }
 }
 
-// A `bool` is printed by no `Display` of ours.
+// How an answer is printed.
 fn answer_name(answer: bool) -> &'static str
     ensures { result.now ≡ answer_name answer }
 {

@@ -1,8 +1,10 @@
--- A table keeper has room for every description: there are no more than 4,095 groups.
+-- A table keeper has room for every description: no description has more groups than there are masks.
 use Rattle.std.proofs.Common.{◌≡◌, ℕ, zero, suc, ◌^◌, ◌<◌, ◌≤◌, List, [], ◌∷◌, length, refl, ap, subst, lt_of_not-le, arith, pow_mono}
 use native.Mathlib.Decide.{dec_le}
-use Rattle.domain.specs.Coverage.{CoreFits, Listed, here, there}
+use Rattle.domain.specs.Coverage.{CoreFits, Listed}
+use Rattle.domain.specs.Coverage.Listed.{here, there}
 use Rattle.domain.specs.Told.{Told, Group, Lawful}
+use Rattle.domain.specs.declared.limits.TheConstants.{MOST_POSITIONS, MOST_GROUPS}
 
 -- the masks from k down to 1
 down : ℕ → List ℕ
@@ -25,15 +27,15 @@ down_lists (suc k) g pos small = go (dec_le g k) (down_lists k g pos)
         let over : k < g = lt_of_not-le above in
         let same : g ≡ suc k = omega arith in subst (λ (x : ℕ). Listed g (x ∷ down k)) same here
 
-pub fits_all : (e : Told) → Lawful e → CoreFits (Group e) 4095
+pub fits_all : (e : Told) → Lawful e → CoreFits (Group e) MOST_GROUPS
 fits_all e law =
     record {
-      groups = down 4095;
-      short = let long = down_length 4095 in omega arith;
+      groups = down MOST_GROUPS;
+      short = let long = down_length MOST_GROUPS in omega arith;
       holds = λ g core.
           let range = law.in_range g core.told in
-          let few : e.n ≤ 12 = (let h = law.few_positions in omega arith) in
-          let high : 2 ^ e.n ≤ 2 ^ 12 = pow_mono few in
+          let few : e.n ≤ MOST_POSITIONS = law.few_positions in
+          let high : 2 ^ e.n ≤ 2 ^ MOST_POSITIONS = pow_mono few in
           let below : g < 2 ^ e.n = range.1 in
-          down_lists 4095 g range.0 (omega arith);
+          down_lists MOST_GROUPS g range.0 (omega arith);
     }

@@ -1,13 +1,10 @@
 -- What a table keeper tells.
-use Rattle.std.specs.Prelude.{false, Some, None, Option}
-use Rattle.description.specs.Descriptions.{told}
+use Rattle.std.specs.Prelude.{unwrap_or, option_map}
+use Rattle.description.specs.Descriptions as description
 use Rattle.domain.specs.Told.{Told}
-use Rattle.description.specs.declared.Description.{Description}
+use Rattle.keeper.specs.Calls.{unopened}
+use Rattle.table_keeper.specs.declared.TableKeeper.{TableKeeper}
 
--- before it is opened there are no positions, so nothing else is told
-abbrev pub nothing : Told
-nothing = record { n = 0; groups = λ g. false; free = 0; linear = 0 }
-
-abbrev pub told_by : Option Description → Told
-told_by None = nothing
-told_by (Some d) = told d
+-- the description that it holds, once it is opened
+abbrev pub told : TableKeeper → Told
+told k = unwrap_or (option_map description.told k.held) unopened

@@ -1,90 +1,59 @@
-ghost use Rattle.std.specs.Prelude.{◌≡◌, ℕ, not, ◌∷◌, length, Some, None, IfOk, IfErr};
-ghost use Rattle.domain.specs.Coverage.{Alike};
-ghost use Rattle.domain.specs.Refusals.{first_of};
+//! The calls of the table keeper.
+ghost use Rattle.std.specs.Prelude.{◌≡◌, Some, None, IfOk, IfErr, OnOk};
+ghost use Rattle.domain.specs.declared.limits.TheConstants.{MOST_GROUPS};
 ghost use Rattle.domain.specs.declared.refusal.Refusal.TheVariants.{Order};
-ghost use Rattle.keeper.specs.Calls.{Changes, Binds, Joins, Forgets, Exactly, fault_of, opened};
-ghost use Rattle.table_keeper.specs.Tells.{told_by, nothing};
+ghost use Rattle.keeper.specs.Calls.{fault_of, unopened};
+ghost use Rattle.table_keeper.specs.Tells.{told};
 
 use crate::TableKeeper;
 use coverage::groups::Groups;
 use description::Description;
-use domain::listing::Listing;
+use domain::change::Change;
+use domain::limits::check_room;
+use domain::outline::Outline;
 use domain::refusal::Refusal;
-use domain::table::check_room;
-use domain::term::Term;
-use keeper::fault::KeeperFault;
-use keeper::keeper::Keeper;
-use keeper::write_out::WrittenOut;
-use rules::work::{Bind, Forget, Join, Rule};
+use keeper::{Keeper, KeeperFault, WrittenOut};
 
 impl TableKeeper {
-    // A keeper that is not opened yet.
+    /// A keeper that is not opened yet.
     pub fn new() -> TableKeeper
-        ensures { told_by result.held ≡ nothing }
+        ensures { told result ≡ unopened }
     {
         TableKeeper { held: None }
     }
 
-    // The description held, once the keeper is opened. One function for both keepers would have to be generic over
-    // what is held, for one line.
+    // The description held, once the keeper is opened.
     fn opened(&self) -> Result<&Description, KeeperFault>
         ensures held { IfOk result (λ held. self.now.held ≡ Some held.now) }
-        ensures order { IfErr result (λ fault. (self.now.held ≡ None) × (fault ≡ fault_of Order)) }
+        ensures order { IfErr result
+            (λ fault. (self.now.held ≡ None) × (fault ≡ fault_of Order)) }
     {
         self.held.as_ref().ok_or(Refusal::Order.into())
     }
-
-    // Works a rule on the description held, and holds what it gives. What the trait asks of the three calls
-    // follows from that, and is said here once for them.
-    fn change<R: Rule + Drop>(&mut self, scratch: &mut [u8], rule: R) -> Result<(), KeeperFault>
-        ensures alike { Changes (first_of ((not (opened (told_by self.old.held)), Order) ∷ R.tests rule (told_by self.old.held).n (length scratch.old))) 4095 (R.gives rule (told_by self.old.held)) Alike (told_by self.old.held) (told_by self.new.held) result }
-        ensures exactly { Changes (first_of ((not (opened (told_by self.old.held)), Order) ∷ R.tests rule (told_by self.old.held).n (length scratch.old))) 4095 (R.gives rule (told_by self.old.held)) Exactly (told_by self.old.held) (told_by self.new.held) result }
-    {
-        let held = self.opened()?.worked(scratch, rule)?;
-        self.held = Some(held);
-        Ok(())
-    }
 }
 
-// Bind, join and forget each say that the capacity stays and, beside what the trait asks, that exactly the groups
-// of the rule are told: a contract is read alone.
 impl Keeper for TableKeeper {
-    ghost told = { λ k. told_by k.held };
+    ghost told = { told };
 
-    ghost capacity = { λ k. 4095 };
+    ghost capacity = { λ k. MOST_GROUPS };
+
+    // exactly what the rule gives is told
+    ghost keeps = { λ Rule before after r. OnOk r (Rule (told after)) };
 
     fn open(&mut self, n: u8, scratch: &mut [u8]) -> Result<(), KeeperFault> {
         if self.held.is_some() {
             return Err(Refusal::Order.into());
         }
         let new = Description::new(n)?;
-        check_room(scratch.len())?;
+        check_room(n, scratch.len())?;
         self.held = Some(new);
         Ok(())
     }
 
-    fn bind(&mut self, position: u8, term: Term, scratch: &mut [u8]) -> Result<(), KeeperFault>
-        ensures binds { Binds Alike 4095 position term (length scratch.old) (told_by self.old.held) (told_by self.new.held) result }
-        ensures same_capacity { ◌≡◌ {A = ℕ} 4095 4095 }
-        ensures exactly { Binds Exactly 4095 position term (length scratch.old) (told_by self.old.held) (told_by self.new.held) result }
-    {
-        self.change(scratch, Bind { position, term })
-    }
-
-    fn join(&mut self, other: Listing<'_>, scratch: &mut [u8]) -> Result<(), KeeperFault>
-        ensures joins { Joins Alike 4095 other.entry.free other.entry.linear other.entry.groups.now (length scratch.old) (told_by self.old.held) (told_by self.new.held) result }
-        ensures same_capacity { ◌≡◌ {A = ℕ} 4095 4095 }
-        ensures exactly { Joins Exactly 4095 other.entry.free other.entry.linear other.entry.groups.now (length scratch.old) (told_by self.old.held) (told_by self.new.held) result }
-    {
-        self.change(scratch, Join(other))
-    }
-
-    fn forget(&mut self, mask: u16, scratch: &mut [u8]) -> Result<(), KeeperFault>
-        ensures forgets { Forgets Alike 4095 mask (length scratch.old) (told_by self.old.held) (told_by self.new.held) result }
-        ensures same_capacity { ◌≡◌ {A = ℕ} 4095 4095 }
-        ensures exactly { Forgets Exactly 4095 mask (length scratch.old) (told_by self.old.held) (told_by self.new.held) result }
-    {
-        self.change(scratch, Forget(mask))
+    fn change(&mut self, change: Change<&[u16]>, scratch: &mut [u8]) -> Result<(), KeeperFault> {
+        let after = self.opened()?.changed(change, scratch)?;
+        self.held = Some(after);
+        Ok(())
     }
 
     fn is_ground(&self, position: u8) -> Result<bool, KeeperFault> {
@@ -105,15 +74,12 @@ impl Keeper for TableKeeper {
 
     fn write_out(&self, list: &mut [u16]) -> Result<WrittenOut, KeeperFault> {
         let held = self.opened()?;
+        let Outline { positions, marks } = held.outline();
         let groups = Groups {
             table: held.table(),
-            positions: held.positions(),
+            positions,
         };
         let count = groups.write_core(list)?;
-        Ok(WrittenOut {
-            count,
-            free: held.free_mask(),
-            linear: held.linear_mask(),
-        })
+        Ok(WrittenOut { count, marks })
     }
 }

@@ -1,4 +1,4 @@
-// Everything that a program prints of a run.
+//! Everything that a program prints of a run.
 #![tactic(auto)]
 
 ghost use Rattle.std.specs.Prelude.{◌≡◌, take, IfOk, string_bytes};
@@ -8,11 +8,10 @@ pub mod line;
 #[cfg(test)]
 mod tests;
 
-use sheet::fault::SheetFault;
-use sheet::mark::StepMark;
+use sheet::{SheetFault, StepMark};
 use std::alloc::{AllocError, Global};
 
-// A line for each step that was done, then one for the refusal if there was one.
+/// A line for each step that was done, then one for the refusal if there was one.
 pub fn transcript(
     heap: Global,
     marks: &[StepMark],

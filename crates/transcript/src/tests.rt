@@ -1,9 +1,7 @@
-// The two lines.
+//! The two lines.
 use crate::line::{mark_line, refusal_line};
 use domain::refusal::Layer;
-use sheet::fault::Refused;
-use sheet::mark::StepMark;
-use sheet::step::StepKind;
+use sheet::{Refused, StepKind, StepMark};
 use std::test::Fail;
 
 #[test]

@@ -1,26 +1,27 @@
 -- A row is right where its calls, computed, end in what it writes out.
-use Rattle.std.proofs.Common.{◌≡◌, ℕ, ◌^◌, Bool, true, ◌&&◌, ltb, List, [], ◌∷◌, refl, ap, ◌∙◌, subst}
-use Rattle.std.proofs.lemmas.Bool.{and_parts, ltb-true}
+use Rattle.std.proofs.Common.{◌≡◌, ℕ, ◌^◌, Bool, true, ◌&&◌, leb, ltb, List, [], ◌∷◌, refl, ap, ◌∙◌, subst}
+use Rattle.std.proofs.lemmas.Bool.{and_parts, leb-true, ltb-true}
 use Rattle.agreement.proofs.Calls.{session_same}
 use Rattle.agreement.proofs.Unique.{one_reckoned}
 use Rattle.agreement.specs.Reckoning.{Opened, Reckoned}
 use Rattle.agreement.specs.Sessions.{Answer, Session}
-use Rattle.coverage.proofs.Kept.{new_lawful}
+use Rattle.domain.proofs.Opening.{new_lawful}
 use Rattle.coverage.proofs.Places.{new_alike}
 use Rattle.domain.specs.Coverage.{CoreList}
 use Rattle.domain.specs.Opening.{New}
 use Rattle.domain.specs.Requests.{held_by}
 use Rattle.domain.specs.Told.{Told, Group}
+use Rattle.domain.specs.declared.limits.TheConstants.{MOST_POSITIONS}
 use Rattle.worked.specs.Rows.{Row, Shows, Worked, AllWorked}
 use Rattle.worked.proofs.BindGroups.{lists_told}
 use Rattle.worked.proofs.CoreLists.{core_within}
-use Rattle.worked.proofs.Running.{end_of, answers_of, all_change, Ran, ran}
+use Rattle.worked.proofs.Running.{state_after, answers_of, all_change, Ran, ran}
 use Rattle.worked.proofs.States.{State, tell, new_of, core_of}
 use Rattle.worked.proofs.Steps as steps
 
 -- the state that a row writes out
 abbrev pub written : Row → State
-written r = record { n = r.n; groups = r.groups; free = r.free; linear = r.linear }
+written r = record { n = r.n; groups = r.groups; marks = r.marks }
 
 -- what it writes out of the groups is so
 pub record Reads (r : Row) : Type 0 where
@@ -32,8 +33,7 @@ shown r c =
     record {
       groups = λ g. (λ k. (lists_told (written r)).all k, λ l. (lists_told (written r)).only l);
       core = subst (λ gs. CoreList (Group (tell (written r))) gs) c.core (core_within r.n (lists_told (written r)) c.in_range);
-      free = refl;
-      linear = refl;
+      marks = refl;
     }
 
 -- ---- what is computed of a row, and what it claims
@@ -46,13 +46,13 @@ pub record Finding : Type 0 where
   pub core : List ℕ
 
 abbrev fits : Row → Bool
-fits r = ltb 0 r.n && (ltb r.n 13 && (all_change r.calls && ltb (held_by r.groups) (2 ^ r.n)))
+fits r = ltb 0 r.n && (leb r.n MOST_POSITIONS && (all_change r.calls && ltb (held_by r.groups) (2 ^ r.n)))
 
 abbrev pub found : Row → Finding
 found r =
     record {
       well_made = fits r;
-      state = end_of r.capacity r.calls (new_of r.n);
+      state = state_after r.capacity r.calls (new_of r.n);
       answers = answers_of r.capacity r.calls (new_of r.n);
       core = core_of r.n r.groups;
     }
@@ -61,15 +61,15 @@ abbrev pub claimed : Row → Finding
 claimed r = record { well_made = true; state = written r; answers = r.answers; core = r.core }
 
 module _ (r : Row) (c : found r ≡ claimed r) where
-  fitting : (ltb 0 r.n ≡ true) × (ltb r.n 13 ≡ true) × (all_change r.calls ≡ true) × (ltb (held_by r.groups) (2 ^ r.n) ≡ true)
+  fitting : (ltb 0 r.n ≡ true) × (leb r.n MOST_POSITIONS ≡ true) × (all_change r.calls ≡ true) × (ltb (held_by r.groups) (2 ^ r.n) ≡ true)
   fitting =
-      let a = and_parts (ltb 0 r.n) (ltb r.n 13 && (all_change r.calls && ltb (held_by r.groups) (2 ^ r.n))) (ap (λ (f : Finding). f.well_made) c) in
-      let b = and_parts (ltb r.n 13) (all_change r.calls && ltb (held_by r.groups) (2 ^ r.n)) a.1 in
+      let a = and_parts (ltb 0 r.n) (leb r.n MOST_POSITIONS && (all_change r.calls && ltb (held_by r.groups) (2 ^ r.n))) (ap (λ (f : Finding). f.well_made) c) in
+      let b = and_parts (leb r.n MOST_POSITIONS) (all_change r.calls && ltb (held_by r.groups) (2 ^ r.n)) a.1 in
       let d = and_parts (all_change r.calls) (ltb (held_by r.groups) (2 ^ r.n)) b.1 in
       (a.0, b.0, d.0, d.1)
 
   opened : Opened r.n
-  opened = (ltb-true 0 r.n fitting.0, ltb-true r.n 13 fitting.1)
+  opened = (ltb-true 0 r.n fitting.0, leb-true r.n MOST_POSITIONS fitting.1)
 
   reads : Reads r
   reads = record { in_range = fitting.3; core = ap (λ (f : Finding). f.core) c }
@@ -84,7 +84,7 @@ module _ (r : Row) (c : found r ≡ claimed r) where
 
   one_answer : (start after : Told) (those : List Answer) → New r.n start → Session r.capacity r.calls start those after → those ≡ r.answers
   one_answer start after those new session =
-      (session_same r.capacity r.calls start (tell (new_of r.n)) after (tell (end_of r.capacity r.calls (new_of r.n))) those
+      (session_same r.capacity r.calls start (tell (new_of r.n)) after (tell (state_after r.capacity r.calls (new_of r.n))) those
       (answers_of r.capacity r.calls (new_of r.n)) (new_alike new (steps.new r.n)) session runs.session).0
       ∙ ap (λ (f : Finding). f.answers) c
 

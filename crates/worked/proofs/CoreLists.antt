@@ -4,11 +4,11 @@ use Rattle.std.proofs.lemmas.Bool.{ltb-true, lt-ltb, eqb-true, eq-eqb}
 use Rattle.domain.proofs.Bits.{in_pos, in_below, some_in, within_le}
 use Rattle.domain.specs.Coverage.{Core, CoreList, Listed}
 use Rattle.domain.specs.Lists.{none}
-use Rattle.domain.specs.Masks.{In, Within}
-use Rattle.domain.specs.Requests.{without, held_by}
+use Rattle.domain.specs.Masks.{In, Within, without}
+use Rattle.domain.specs.Requests.{held_by}
 use Rattle.worked.proofs.Verdicts.{marks_sharing}
 use Rattle.worked.proofs.Gathering.{Lists, lists_as, Says, Which, keep, lists_keep, merged, lists_merged, merged_above}
-use Rattle.worked.proofs.Positions.{has, says_has, says_contained, says_both, says_none, says_some, Marks, marks_self, marks_without, Held, marks_held}
+use Rattle.worked.proofs.Positions.{has, says_has, says_contained, says_both, says_none, says_some, IsMaskOf, marks_self, marks_without, Held, marks_held}
 use Rattle.worked.proofs.States.{sharing, inside, is_core, core_of}
 
 module _ {P : ℕ → Type 0} {gs : List ℕ} (l : Lists P gs) where
@@ -26,7 +26,7 @@ module _ {P : ℕ → Type 0} {gs : List ℕ} (l : Lists P gs) where
   abbrev Open : ℕ → ℕ → ℕ → Type 0
   Open g p q = In q g × (Held (Which (Which P (Smaller g)) (In p)) q → ⊥)
 
-  marks_open : (g p : ℕ) → Marks (Open g p) (without g (sharing (inside gs g) p))
+  marks_open : (g p : ℕ) → IsMaskOf (Open g p) (without g (sharing (inside gs g) p))
   marks_open g p = marks_without (marks_self g) (marks_sharing (lists_inside g) p)
 
   says_open : (g p : ℕ) → Says (has p g && ltb 0 (without g (sharing (inside gs g) p))) (In p g × ((q : ℕ) × Open g p q))

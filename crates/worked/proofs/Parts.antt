@@ -22,10 +22,10 @@ fits_from d x t TermLinear f = f
 fits_from d x t Neither f = f
 
 stays_to : {d : Told} {x p : ℕ} {t : Term} → StaysLinear d x t p → StaysBy (LinearTerm d t) d x t p
-stays_to k = record { was = k.was; outside_both = k.outside_both; outside_x = k.outside_x; outside_t = k.outside_t }
+stays_to k = record { was = k.was; far_from_both = k.far_from_both; far_from_x = k.far_from_x; far_from_t = k.far_from_t }
 
 stays_from : {d : Told} {x p : ℕ} {t : Term} → StaysBy (LinearTerm d t) d x t p → StaysLinear d x t p
-stays_from k = record { was = k.was; outside_both = k.outside_both; outside_x = k.outside_x; outside_t = k.outside_t }
+stays_from k = record { was = k.was; far_from_both = k.far_from_both; far_from_x = k.far_from_x; far_from_t = k.far_from_t }
 
 rule_to : {d e : Told} {x : ℕ} {t : Term} → Bound d x t e → BoundBy (LinearTerm d t) FreeOrGround d x t e
 rule_to {d} {e} {x} {t} b =

@@ -5,8 +5,8 @@ use lib.Bits.{bit_and, bit_or}
 use Rattle.std.proofs.lemmas.Bool.{or_cases, or_left, or_right, and_parts, and_from, eqb-true, eq-eqb, ltb-true, lt-ltb, both_ways, not-true, not_from_false, cases_Bool}
 use Rattle.domain.proofs.Bits.{none_in, in_left, in_right, in_either, in_both, in_first, in_second, in_lacking, lacking_in, in_all, all_in, within_and, and_within, meets_and, and_meets}
 use Rattle.domain.specs.Coverage.{Listed, here, there}
-use Rattle.domain.specs.Masks.{In, Within, Meets}
-use Rattle.domain.specs.Requests.{contained, without, held_by}
+use Rattle.domain.specs.Masks.{In, Within, Meets, contained, without}
+use Rattle.domain.specs.Requests.{held_by}
 use Rattle.worked.proofs.Gathering.{Lists, Says, says_not}
 
 -- ---- tests
@@ -80,34 +80,34 @@ says_each {P} {test} (suc n) s =
 -- ---- masks
 
 -- m holds exactly the positions of P
-pub record Marks (P : ℕ → Type 0) (m : ℕ) : Type 0 where
+pub record IsMaskOf (P : ℕ → Type 0) (m : ℕ) : Type 0 where
   pub only : {p : ℕ} → In p m → P p
   pub all : {p : ℕ} → P p → In p m
 
-pub marks_self : (m : ℕ) → Marks (λ p. In p m) m
+pub marks_self : (m : ℕ) → IsMaskOf (λ p. In p m) m
 marks_self m = record { only = λ i. i; all = λ i. i }
 
-pub marks_as : {P Q : ℕ → Type 0} {m : ℕ} → ((p : ℕ) → P p → Q p) → ((p : ℕ) → Q p → P p) → Marks P m → Marks Q m
+pub marks_as : {P Q : ℕ → Type 0} {m : ℕ} → ((p : ℕ) → P p → Q p) → ((p : ℕ) → Q p → P p) → IsMaskOf P m → IsMaskOf Q m
 marks_as f b k = record { only = λ {p} i. f p (k.only i); all = λ {p} q. k.all (b p q) }
 
-pub marks_none : Marks (λ p. ⊥) 0
+pub marks_none : IsMaskOf (λ p. ⊥) 0
 marks_none = record { only = λ i. none_in i; all = λ e. absurd e }
 
-pub marks_below : (n : ℕ) → Marks (λ p. p < n) (2 ^ n - 1)
+pub marks_below : (n : ℕ) → IsMaskOf (λ p. p < n) (2 ^ n - 1)
 marks_below n = record { only = λ {p} i. all_in p n i; all = λ {p} h. in_all p n h }
 
-pub marks_or : {P Q : ℕ → Type 0} {a b : ℕ} → Marks P a → Marks Q b → Marks (λ p. P p ⊎ Q p) (bit_or a b)
+pub marks_or : {P Q : ℕ → Type 0} {a b : ℕ} → IsMaskOf P a → IsMaskOf Q b → IsMaskOf (λ p. P p ⊎ Q p) (bit_or a b)
 marks_or {a = a} {b = b} k l =
     record {
       only = λ i. elim (in_either a b i) [ inl j ↦ inl (k.only j) | inr j ↦ inr (l.only j) ];
       all = λ s. elim s [ inl p ↦ in_left b (k.all p) | inr q ↦ in_right a (l.all q) ];
     }
 
-pub marks_and : {P Q : ℕ → Type 0} {a b : ℕ} → Marks P a → Marks Q b → Marks (λ p. P p × Q p) (bit_and a b)
+pub marks_and : {P Q : ℕ → Type 0} {a b : ℕ} → IsMaskOf P a → IsMaskOf Q b → IsMaskOf (λ p. P p × Q p) (bit_and a b)
 marks_and {a = a} {b = b} k l =
     record { only = λ i. (k.only (in_first a b i), l.only (in_second a b i)); all = λ r. in_both (k.all r.0) (l.all r.1) }
 
-pub marks_without : {P Q : ℕ → Type 0} {a b : ℕ} → Marks P a → Marks Q b → Marks (λ p. P p × (Q p → ⊥)) (without a b)
+pub marks_without : {P Q : ℕ → Type 0} {a b : ℕ} → IsMaskOf P a → IsMaskOf Q b → IsMaskOf (λ p. P p × (Q p → ⊥)) (without a b)
 marks_without {a = a} {b = b} k l =
     record {
       only = λ i. let r = lacking_in a b i in (k.only r.0, λ q. r.1 (l.all q));
@@ -119,7 +119,7 @@ abbrev pub unless : Bool → ℕ → ℕ
 unless true m = 0
 unless false m = m
 
-pub marks_unless : {P : ℕ → Type 0} {Q : Type 0} {b : Bool} {m : ℕ} → Says b Q → Marks P m → Marks (λ p. (Q → ⊥) × P p) (unless b m)
+pub marks_unless : {P : ℕ → Type 0} {Q : Type 0} {b : Bool} {m : ℕ} → Says b Q → IsMaskOf P m → IsMaskOf (λ p. (Q → ⊥) × P p) (unless b m)
 marks_unless {b = true} s k = record { only = λ i. absurd (none_in i); all = λ r. absurd (r.0 (s.yes refl)) }
 marks_unless {b = false} s k = record { only = λ i. (λ q. says_not s refl q, k.only i); all = λ r. k.all r.1 }
 
@@ -131,7 +131,7 @@ pub record Held (P : ℕ → Type 0) (p : ℕ) : Type 0 where
   pub told : P group
   pub holds : In p group
 
-pub marks_held : {P : ℕ → Type 0} {gs : List ℕ} → Lists P gs → Marks (Held P) (held_by gs)
+pub marks_held : {P : ℕ → Type 0} {gs : List ℕ} → Lists P gs → IsMaskOf (Held P) (held_by gs)
 marks_held {P} {gs} lp =
     record {
       only = λ i. only gs (λ g l. lp.only l) i;

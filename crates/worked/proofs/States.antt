@@ -1,10 +1,15 @@
 -- Descriptions with their groups in a list, and what each step makes of one, computed.
 use Rattle.std.proofs.Common.{ℕ, zero, suc, ◌-◌, ◌^◌, Bool, true, false, not, ◌&&◌, ◌||◌, eqb, ltb, List, [], ◌∷◌}
 use lib.Bits.{bit_and, bit_or}
-use Rattle.domain.specs.Requests.{contained, without, held_by}
+use Rattle.domain.specs.Masks.{contained, without}
+use Rattle.domain.specs.Requests.{held_by}
 use Rattle.domain.specs.Told.{Told}
 use Rattle.domain.specs.declared.case.Case.{Case}
 use Rattle.domain.specs.declared.case.Case.TheVariants.{Free, BothLinear, PositionLinear, TermLinear, Neither}
+use Rattle.domain.specs.declared.change.Change.{Change}
+use Rattle.domain.specs.declared.change.Change.TheVariants.{Bind, Join, Forget}
+use Rattle.domain.specs.declared.listing.Listing.{Listing}
+use Rattle.domain.specs.declared.marks.Marks.{Marks}
 use Rattle.domain.specs.declared.term.Term.{Term}
 use Rattle.worked.proofs.Gathering.{member, add, merged, keep}
 use Rattle.worked.proofs.Positions.{has, touches, some, each, unless}
@@ -13,11 +18,10 @@ use Rattle.worked.proofs.Unions.{pairs, closed, extended}
 pub record State : Type 0 where
   pub n : ℕ
   pub groups : List ℕ
-  pub free : ℕ
-  pub linear : ℕ
+  pub marks : Marks
 
 abbrev pub tell : State → Told
-tell s = record { n = s.n; groups = λ g. member g s.groups; free = s.free; linear = s.linear }
+tell s = record { n = s.n; groups = λ g. member g s.groups; marks = s.marks }
 
 -- ---- new
 
@@ -31,7 +35,7 @@ singles zero m = []
 singles (suc n) m = single (has n m) (2 ^ n) (singles n m)
 
 unfoldable pub new_of : ℕ → State
-new_of n = record { n = n; groups = singles n (2 ^ n - 1); free = 2 ^ n - 1; linear = 2 ^ n - 1 }
+new_of n = record { n = n; groups = singles n (2 ^ n - 1); marks = record { free = 2 ^ n - 1; linear = 2 ^ n - 1 } }
 
 -- ---- terms
 
@@ -41,12 +45,12 @@ sharing gs p = held_by (keep (has p) gs)
 
 -- the term is a position, and it is free
 unfoldable pub free_term : State → Term → Bool
-free_term s t = t.bare && contained t.held s.free
+free_term s t = t.bare && contained t.held s.marks.free
 
 -- p is linear, held once, and shares with no other position of the term
 unfoldable pub once : State → Term → ℕ → Bool
 once s t p =
-    has p s.linear
+    has p s.marks.linear
     && (not (has p t.repeated) && contained (bit_and (sharing s.groups p) t.held) (2 ^ p))
 
 unfoldable pub linear_term : State → Term → Bool
@@ -63,42 +67,42 @@ case_of false false true false = PositionLinear
 case_of false false false true = TermLinear
 case_of false false false false = Neither
 
--- the groups that each case makes of the x-groups, the t-groups and those that are both
+-- the groups that each case makes of those of the two sides and those that are shared
 abbrev pub made_of : Case → List ℕ → List ℕ → List ℕ → List ℕ
-made_of Free xs ts ss = pairs xs ts
-made_of BothLinear xs ts ss = pairs (extended xs ss) (extended ts ss)
-made_of PositionLinear xs ts ss = pairs (closed xs) (extended ts ss)
-made_of TermLinear xs ts ss = pairs (extended xs ss) (closed ts)
-made_of Neither xs ts ss = pairs (closed xs) (closed ts)
+made_of Free ls rs ss = pairs ls rs
+made_of BothLinear ls rs ss = pairs (extended ls ss) (extended rs ss)
+made_of PositionLinear ls rs ss = pairs (closed ls) (extended rs ss)
+made_of TermLinear ls rs ss = pairs (extended ls ss) (closed rs)
+made_of Neither ls rs ss = pairs (closed ls) (closed rs)
 
-unfoldable pub x_groups : List ℕ → ℕ → List ℕ
-x_groups gs x = keep (has x) gs
-
-unfoldable pub t_groups : List ℕ → ℕ → List ℕ
-t_groups gs v = keep (λ g. touches g v) gs
-
+-- those that meet both masks
 unfoldable pub shared_groups : List ℕ → ℕ → ℕ → List ℕ
-shared_groups gs x v = keep (λ g. has x g && touches g v) gs
+shared_groups gs a b = keep (λ g. touches g a && touches g b) gs
 
-unfoldable pub rest_groups : List ℕ → ℕ → ℕ → List ℕ
-rest_groups gs x v = keep (λ g. not (has x g) && not (touches g v)) gs
+-- those of one side
+abbrev pub side_groups : List ℕ → ℕ → List ℕ
+side_groups gs a = shared_groups gs a a
+
+-- those that meet neither
+unfoldable pub apart_groups : List ℕ → ℕ → ℕ → List ℕ
+apart_groups gs a b = keep (λ g. not (touches g a) && not (touches g b)) gs
 
 unfoldable pub bound_groups : List ℕ → ℕ → ℕ → Case → List ℕ
-unfolding x_groups t_groups shared_groups rest_groups
-bound_groups gs x v c =
-    merged (made_of c (x_groups gs x) (t_groups gs v) (shared_groups gs x v)) (rest_groups gs x v)
+unfolding shared_groups apart_groups
+bound_groups gs a b c =
+    merged (made_of c (side_groups gs a) (side_groups gs b) (shared_groups gs a b)) (apart_groups gs a b)
 
--- what stays of the free mask, given the positions of x-groups and of t-groups
+-- what stays of the free mask
 unfoldable pub stays_free : State → ℕ → Term → ℕ
 stays_free s x t =
-    without s.free
-    (bit_or (unless (free_term s t) (held_by (x_groups s.groups x))) (unless (has x s.free) (held_by (t_groups s.groups t.held))))
+    without s.marks.free
+    (bit_or (unless (free_term s t) (held_by (side_groups s.groups (2 ^ x)))) (unless (has x s.marks.free) (held_by (side_groups s.groups t.held))))
 
 unfoldable pub stays_linear : Bool → State → ℕ → Term → ℕ
 stays_linear verdict s x t =
-    let xs = held_by (x_groups s.groups x) in
-    let ts = held_by (t_groups s.groups t.held) in
-    without s.linear (bit_or (bit_and xs ts) (bit_or (unless verdict xs) (unless (has x s.linear) ts)))
+    let near_x = held_by (side_groups s.groups (2 ^ x)) in
+    let near_t = held_by (side_groups s.groups t.held) in
+    without s.marks.linear (bit_or (bit_and near_x near_t) (bit_or (unless verdict near_x) (unless (has x s.marks.linear) near_t)))
 
 -- the positions of n that no group holds
 unfoldable pub ground_of : ℕ → List ℕ → ℕ
@@ -107,13 +111,12 @@ ground_of n gs = without (2 ^ n - 1) (held_by gs)
 -- a bind with a verdict on whether the term is linear, and with the positions that are made linear by the new groups
 unfoldable pub bind_by : Bool → (List ℕ → ℕ) → State → ℕ → Term → State
 bind_by verdict again s x t =
-    let groups = bound_groups s.groups x t.held (case_of (has x s.free) (free_term s t) (has x s.linear) verdict) in
+    let groups = bound_groups s.groups (2 ^ x) t.held (case_of (has x s.marks.free) (free_term s t) (has x s.marks.linear) verdict) in
     let free = stays_free s x t in
     record {
       n = s.n;
       groups = groups;
-      free = free;
-      linear = bit_or (stays_linear verdict s x t) (bit_or free (again groups));
+      marks = record { free = free; linear = bit_or (stays_linear verdict s x t) (bit_or free (again groups)) };
     }
 
 unfoldable pub bind_of : State → ℕ → Term → State
@@ -122,13 +125,12 @@ bind_of s x t = bind_by (linear_term s t) (ground_of s.n) s x t
 
 -- ---- join and forget
 
-unfoldable pub join_of : State → ℕ → ℕ → List ℕ → State
-join_of s free linear hs =
+unfoldable pub join_of : State → Listing (List ℕ) → State
+join_of s other =
     record {
       n = s.n;
-      groups = merged hs s.groups;
-      free = bit_and s.free free;
-      linear = bit_and s.linear linear;
+      groups = merged other.groups s.groups;
+      marks = record { free = bit_and s.marks.free other.marks.free; linear = bit_and s.marks.linear other.marks.linear };
     }
 
 -- what the groups leave without the positions of m
@@ -141,9 +143,15 @@ forget_of s m =
     record {
       n = s.n;
       groups = merged (singles s.n m) (keep (λ g. ltb 0 g) (stripped s.groups m));
-      free = bit_or s.free m;
-      linear = bit_or s.linear m;
+      marks = record { free = bit_or s.marks.free m; linear = bit_or s.marks.linear m };
     }
+
+-- ---- any change
+
+unfoldable pub change_of : Change (List ℕ) → State → State
+change_of (Bind x t) s = bind_of s x t
+change_of (Join other) s = join_of s other
+change_of (Forget m) s = forget_of s m
 
 -- ---- core
 

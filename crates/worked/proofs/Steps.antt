@@ -7,13 +7,13 @@ use Rattle.domain.proofs.Bits.{in_below, in_lacking, lacking_in, same_mask, in_a
 use Rattle.domain.specs.Coverage.{Listed, here, there}
 use Rattle.domain.specs.Forgetting.{Stripped, Renewed, Forgotten}
 use Rattle.domain.specs.Joining.{Joined}
-use Rattle.domain.specs.Masks.{In}
+use Rattle.domain.specs.Masks.{In, without}
 use Rattle.domain.specs.Opening.{Single, New}
-use Rattle.domain.specs.Requests.{without}
-use Rattle.domain.specs.Told.{Told, Group}
+use Rattle.domain.specs.Told.{Group}
+use Rattle.domain.specs.declared.listing.Listing.{Listing}
 use Rattle.worked.proofs.BindGroups.{lists_told}
 use Rattle.worked.proofs.Gathering.{Lists, lists_as, lists_self, Says, says_not, add, add_only, add_new, add_old, keep, lists_keep, lists_merged}
-use Rattle.worked.proofs.Positions.{has, says_has, Marks, marks_self, marks_below, marks_or, marks_and}
+use Rattle.worked.proofs.Positions.{has, says_has, IsMaskOf, marks_self, marks_below, marks_or, marks_and}
 use Rattle.worked.proofs.States.{State, tell, single, singles, new_of, join_of, stripped, forget_of}
 
 -- ---- single positions
@@ -78,14 +78,14 @@ new n =
         (λ g s. record { place = s.place; position = s.position; held = in_all s.place n s.position; only = s.only })
         (lists_singles n (2 ^ n - 1))
 
-    marks : Marks (λ p. p < n) (2 ^ n - 1)
+    marks : IsMaskOf (λ p. p < n) (2 ^ n - 1)
     marks = marks_below n
 
 -- ---- join
 
-pub join : (s : State) (free linear : ℕ) (hs : List ℕ) → Joined (tell s) free linear hs (tell (join_of s free linear hs))
+pub join : (s : State) (other : Listing (List ℕ)) → Joined (tell s) other (tell (join_of s other))
 unfolding join_of
-join s free linear hs =
+join s other =
     record {
       positions = refl;
       groups_made = λ g k. told.only (groups.all k);
@@ -97,21 +97,21 @@ join s free linear hs =
     }
   where
     e : State
-    e = join_of s free linear hs
+    e = join_of s other
 
     told : Lists (Group (tell e)) e.groups
     told = lists_told e
 
-    groups : Lists (λ g. Group (tell s) g ⊎ Listed g hs) e.groups
+    groups : Lists (λ g. Group (tell s) g ⊎ Listed g other.groups) e.groups
     groups =
         lists_as (λ g k. elim k [ inl a ↦ inr a | inr b ↦ inl b ]) (λ g k. elim k [ inl a ↦ inr a | inr b ↦ inl b ])
-        (lists_merged (lists_self hs) (lists_told s))
+        (lists_merged (lists_self other.groups) (lists_told s))
 
-    frees : Marks (λ p. In p s.free × In p free) (bit_and s.free free)
-    frees = marks_and (marks_self s.free) (marks_self free)
+    frees : IsMaskOf (λ p. In p s.marks.free × In p other.marks.free) (bit_and s.marks.free other.marks.free)
+    frees = marks_and (marks_self s.marks.free) (marks_self other.marks.free)
 
-    linears : Marks (λ p. In p s.linear × In p linear) (bit_and s.linear linear)
-    linears = marks_and (marks_self s.linear) (marks_self linear)
+    linears : IsMaskOf (λ p. In p s.marks.linear × In p other.marks.linear) (bit_and s.marks.linear other.marks.linear)
+    linears = marks_and (marks_self s.marks.linear) (marks_self other.marks.linear)
 
 -- ---- forget
 
@@ -141,8 +141,8 @@ lists_stripped {P} {gs} m l =
     all (here {gs = hs}) = add_new (without _ m) (stripped hs m)
     all (there {h = h} {gs = hs} k) = add_old (without h m) (stripped hs m) (all k)
 
-remains_stripped : {d : Told} {m g : ℕ} → Remains (Group d) m g → 0 < g → Stripped d m g
-remains_stripped {d} {m} {g} r some =
+remains_stripped : {G : ℕ → Type 0} {m g : ℕ} → Remains G m g → 0 < g → Stripped G m g
+remains_stripped {G} {m} {g} r some =
     record {
       group = r.group;
       told = r.told;
@@ -151,8 +151,8 @@ remains_stripped {d} {m} {g} r some =
       not_empty = some;
     }
 
-stripped_remains : {d : Told} {m g : ℕ} → Stripped d m g → Remains (Group d) m g
-stripped_remains {d} {m} {g} s =
+stripped_remains : {G : ℕ → Type 0} {m g : ℕ} → Stripped G m g → Remains G m g
+stripped_remains {G} {m} {g} s =
     record {
       group = s.group;
       told = s.told;
@@ -180,7 +180,7 @@ forget s m h =
     told : Lists (Group (tell e)) e.groups
     told = lists_told e
 
-    left : Lists (Stripped (tell s) m) (keep (λ g. ltb 0 g) (stripped s.groups m))
+    left : Lists (Stripped (Group (tell s)) m) (keep (λ g. ltb 0 g) (stripped s.groups m))
     left =
         lists_as (λ g w. remains_stripped w.told w.holds) (λ g k. record { told = stripped_remains k; holds = k.not_empty })
         (lists_keep {Q = λ g. 0 < g} (λ g. record { yes = ltb-true 0 g; no = lt-ltb 0 g }) (lists_stripped m (lists_told s)))
@@ -191,13 +191,13 @@ forget s m h =
         (λ g k. record { place = k.place; position = in_below s.n k.forgotten h; held = k.forgotten; only = k.only })
         (lists_singles s.n m)
 
-    groups : Lists (λ g. Stripped (tell s) m g ⊎ Renewed m g) e.groups
+    groups : Lists (λ g. Stripped (Group (tell s)) m g ⊎ Renewed m g) e.groups
     groups =
         lists_as (λ g k. elim k [ inl a ↦ inr a | inr b ↦ inl b ]) (λ g k. elim k [ inl a ↦ inr a | inr b ↦ inl b ])
         (lists_merged renewed left)
 
-    frees : Marks (λ p. In p s.free ⊎ In p m) (bit_or s.free m)
-    frees = marks_or (marks_self s.free) (marks_self m)
+    frees : IsMaskOf (λ p. In p s.marks.free ⊎ In p m) (bit_or s.marks.free m)
+    frees = marks_or (marks_self s.marks.free) (marks_self m)
 
-    linears : Marks (λ p. In p s.linear ⊎ In p m) (bit_or s.linear m)
-    linears = marks_or (marks_self s.linear) (marks_self m)
+    linears : IsMaskOf (λ p. In p s.marks.linear ⊎ In p m) (bit_or s.marks.linear m)
+    linears = marks_or (marks_self s.marks.linear) (marks_self m)

@@ -28,11 +28,10 @@ module _ (r : Row) (t : Told) (alike : (d : Told) × Reckoned r.n r.capacity r.c
 
   row_written : (list list' : List ℕ) (w : Result WrittenOut KeeperFault) → Writes t list list' w → WritesRow r list list' w
   row_written list list' (Ok w) h =
-      let same : h.3.0 ≡ r.core = one_core {d = t} {e = t} h.3.0 r.core (λ g k. k) (λ g k. k) h.3.1 core in (
-        h.3.2 ∙ ap length same,
-        h.1 ∙ sym alike.3.free ∙ alike.2.free,
-        h.2 ∙ sym alike.3.linear ∙ alike.2.linear,
-        subst (λ (gs : List ℕ). list' ≡ gs ++ drop (length gs) list) same h.3.4,
+      let same : h.2.0 ≡ r.core = one_core h.2.0 r.core (λ g k. k) (λ g k. k) h.2.1 core in (
+        h.2.2 ∙ ap length same,
+        h.1 ∙ sym alike.3.marks ∙ alike.2.marks,
+        subst (λ (gs : List ℕ). list' ≡ gs ++ drop (length gs) list) same h.2.4,
       )
   row_written list list' (Err f) h = go h.1
     where

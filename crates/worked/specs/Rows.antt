@@ -3,6 +3,7 @@ use Rattle.std.specs.Prelude.{◌≡◌, ℕ, ◌↔◌, List, [], ◌∷◌}
 use Rattle.domain.specs.Coverage.{Listed, CoreList}
 use Rattle.domain.specs.Opening.{New}
 use Rattle.domain.specs.Told.{Told, Group}
+use Rattle.domain.specs.declared.marks.Marks.{Marks}
 use Rattle.agreement.specs.Reckoning.{Reckoned}
 use Rattle.agreement.specs.Sessions.{Call, Answer, Session}
 
@@ -12,18 +13,16 @@ pub record Row : Type 0 where
   pub calls : List Call
   -- what every keeper answers to the calls
   pub answers : List Answer
-  -- the description that is reckoned: all its groups, its core, its two masks
+  -- the description that is reckoned: all its groups, its core, its marks
   pub groups : List ℕ
   pub core : List ℕ
-  pub free : ℕ
-  pub linear : ℕ
+  pub marks : Marks
 
 -- d is the description that the row writes out
 pub record Shows (r : Row) (d : Told) : Type 0 where
   pub groups : (g : ℕ) → Group d g ↔ Listed g r.groups
   pub core : CoreList (Group d) r.core
-  pub free : d.free ≡ r.free
-  pub linear : d.linear ≡ r.linear
+  pub marks : d.marks ≡ r.marks
 
 -- the row is right
 pub record Worked (r : Row) : Type 0 where

@@ -1,16 +1,19 @@
 -- Shortcuts of the rules that give something else, each with an example in which it does.
-use Rattle.std.specs.Prelude.{◌≡◌, ℕ, ◌≢◌, ◌⊎◌, ◌↔◌, List, [], ◌∷◌, ◌++◌}
+use Rattle.std.specs.Prelude.{◌≡◌, ℕ, ◌^◌, ◌≢◌, ◌⊎◌, ◌↔◌, List, [], ◌∷◌, ◌++◌}
 use Rattle.agreement.specs.Reckoning.{Reckoned}
 use Rattle.agreement.specs.Sessions.{Call}
-use Rattle.domain.specs.Binding.{FreePosition, FreeTerm, LinearPosition, LinearTerm, NewGroup, InX, InT, StaysFree, Bound}
+use Rattle.domain.specs.Binding.{FreeTerm, LinearTerm, NewGroup, StaysFree, Bound}
 use Rattle.domain.specs.Coverage.{CoreList, Listed}
 use Rattle.domain.specs.Masks.{In, Within}
-use Rattle.domain.specs.Told.{Told, Group, Ground}
+use Rattle.domain.specs.Groups.{Near, IsGround}
+use Rattle.domain.specs.Terms.{bare_term, constant_term, over_term}
+use Rattle.domain.specs.Told.{Told, Group, IsFree, IsLinear}
+use Rattle.domain.specs.declared.limits.TheConstants.{MOST_GROUPS}
 use Rattle.domain.specs.declared.case.Case.{Case}
 use Rattle.domain.specs.declared.case.Case.TheVariants.{Free, BothLinear, PositionLinear, TermLinear, Neither}
 use Rattle.domain.specs.declared.term.Term.{Term}
 use Rattle.worked.specs.Rows.{Row, Shows, Worked}
-use Rattle.worked.specs.Table.{position, constant, over, bind_to, row, five}
+use Rattle.worked.specs.Table.{bind_to, row, five}
 
 -- ---- the core is more than the groups in which no smaller one lies
 
@@ -33,36 +36,36 @@ pub record MinimalIsTooFew : Type 0 where
 
 -- the first case that fits, where L is said of the term in place of `LinearTerm`
 abbrev pub FitsBy : Type 0 → Told → ℕ → Term → Case → Type 0
-FitsBy L d x t Free = FreePosition d x ⊎ FreeTerm d t
-FitsBy L d x t BothLinear = (FreePosition d x → ⊥) × (FreeTerm d t → ⊥) × LinearPosition d x × L
-FitsBy L d x t PositionLinear = (FreePosition d x → ⊥) × (FreeTerm d t → ⊥) × LinearPosition d x × (L → ⊥)
-FitsBy L d x t TermLinear = (FreePosition d x → ⊥) × (FreeTerm d t → ⊥) × (LinearPosition d x → ⊥) × L
-FitsBy L d x t Neither = (FreePosition d x → ⊥) × (FreeTerm d t → ⊥) × (LinearPosition d x → ⊥) × (L → ⊥)
+FitsBy L d x t Free = IsFree d x ⊎ FreeTerm d t
+FitsBy L d x t BothLinear = (IsFree d x → ⊥) × (FreeTerm d t → ⊥) × IsLinear d x × L
+FitsBy L d x t PositionLinear = (IsFree d x → ⊥) × (FreeTerm d t → ⊥) × IsLinear d x × (L → ⊥)
+FitsBy L d x t TermLinear = (IsFree d x → ⊥) × (FreeTerm d t → ⊥) × (IsLinear d x → ⊥) × L
+FitsBy L d x t Neither = (IsFree d x → ⊥) × (FreeTerm d t → ⊥) × (IsLinear d x → ⊥) × (L → ⊥)
 
 pub record StaysBy (L : Type 0) (d : Told) (x : ℕ) (t : Term) (p : ℕ) : Type 0 where
-  pub was : In p d.linear
-  pub outside_both : InX d x p → InT d t.held p → ⊥
-  pub outside_x : (L → ⊥) → InX d x p → ⊥
-  pub outside_t : (LinearPosition d x → ⊥) → InT d t.held p → ⊥
+  pub was : IsLinear d p
+  pub far_from_both : Near (Group d) (2 ^ x) p → Near (Group d) t.held p → ⊥
+  pub far_from_x : (L → ⊥) → Near (Group d) (2 ^ x) p → ⊥
+  pub far_from_t : (IsLinear d x → ⊥) → Near (Group d) t.held p → ⊥
 
 -- L is said of the term, and the positions of which `Again` holds are added to the linear mask
 pub record BoundBy (L : Type 0) (Again : Told → ℕ → Type 0) (d : Told) (x : ℕ) (t : Term) (e : Told) : Type 0 where
   pub positions : e.n ≡ d.n
   pub case : Case
   pub fits : FitsBy L d x t case
-  pub groups_made : (g : ℕ) → NewGroup (Group d) x t.held case g → Group e g
-  pub groups_only : (g : ℕ) → Group e g → NewGroup (Group d) x t.held case g
-  pub free_kept : (p : ℕ) → StaysFree d x t p → In p e.free
-  pub free_only : (p : ℕ) → In p e.free → StaysFree d x t p
-  pub linear_kept : (p : ℕ) → StaysBy L d x t p → In p e.linear
-  pub linear_added : (p : ℕ) → Again e p → In p e.linear
-  pub linear_only : (p : ℕ) → In p e.linear → StaysBy L d x t p ⊎ Again e p
+  pub groups_made : (g : ℕ) → NewGroup (Group d) (2 ^ x) t.held case g → Group e g
+  pub groups_only : (g : ℕ) → Group e g → NewGroup (Group d) (2 ^ x) t.held case g
+  pub free_kept : (p : ℕ) → StaysFree d x t p → IsFree e p
+  pub free_only : (p : ℕ) → IsFree e p → StaysFree d x t p
+  pub linear_kept : (p : ℕ) → StaysBy L d x t p → IsLinear e p
+  pub linear_added : (p : ℕ) → Again e p → IsLinear e p
+  pub linear_only : (p : ℕ) → IsLinear e p → StaysBy L d x t p ⊎ Again e p
 
 abbrev pub FreeAgain : Told → ℕ → Type 0
-FreeAgain e p = In p e.free
+FreeAgain e p = IsFree e p
 
 abbrev pub FreeOrGround : Told → ℕ → Type 0
-FreeOrGround e p = In p e.free ⊎ Ground e p
+FreeOrGround e p = IsFree e p ⊎ IsGround e.n (Group e) p
 
 -- with the rule's own two parts it is the rule
 abbrev pub RuleOfParts : Type 0
@@ -72,12 +75,12 @@ RuleOfParts = (d e : Told) (x : ℕ) (t : Term) → Bound d x t e ↔ BoundBy (L
 
 -- by counting alone: each position of the term is linear and stands in it once, whatever they share
 pub record CountedLinear (d : Told) (t : Term) : Type 0 where
-  pub each : (p : ℕ) → In p t.held → In p d.linear × (In p t.repeated → ⊥)
+  pub each : (p : ℕ) → In p t.held → IsLinear d p × (In p t.repeated → ⊥)
 
 -- 0 is bound to position 1: f(0, 1) is linear by counting, and not by the rule, since 0 and 1 share
 abbrev pub SharersAreNotLinear : Type 0
 SharersAreNotLinear =
-    (d : Told) → Reckoned 2 4095 (bind_to 0 (position 1) ∷ []) d → CountedLinear d (over 3 0) × (LinearTerm d (over 3 0) → ⊥)
+    (d : Told) → Reckoned 2 MOST_GROUPS (bind_to 0 (bare_term 1) ∷ []) d → CountedLinear d (over_term 3 0) × (LinearTerm d (over_term 3 0) → ⊥)
 
 -- the rule with that verdict
 abbrev pub Counting : Told → ℕ → Term → Told → Type 0
@@ -100,18 +103,18 @@ pub record Differs (Shortcut : Told → ℕ → Term → Told → Type 0) (befor
 
 -- 0 is bound to f(1, 3, 4) and 2 to position 1; then 0 to f(1, 2), where 1 and 2 share
 abbrev pub sharers : List Call
-sharers = bind_to 0 (over 26 0) ∷ bind_to 2 (position 1) ∷ []
+sharers = bind_to 0 (over_term 26 0) ∷ bind_to 2 (bare_term 1) ∷ []
 
 abbrev pub CountingDiffers : Type 0
 CountingDiffers =
-    Differs Counting sharers 0 (over 6 0)
-    (row 5 (bound sharers 0 (over 6 0)) (7 ∷ 15 ∷ 23 ∷ 31 ∷ []) (7 ∷ 15 ∷ 23 ∷ 31 ∷ []) 0 0)
-    (row 5 (bound sharers 0 (over 6 0)) (7 ∷ 15 ∷ 23 ∷ []) (7 ∷ 15 ∷ 23 ∷ []) 0 24)
+    Differs Counting sharers 0 (over_term 6 0)
+    (row 5 (bound sharers 0 (over_term 6 0)) (7 ∷ 15 ∷ 23 ∷ 31 ∷ []) (7 ∷ 15 ∷ 23 ∷ 31 ∷ []) 0 0)
+    (row 5 (bound sharers 0 (over_term 6 0)) (7 ∷ 15 ∷ 23 ∷ []) (7 ∷ 15 ∷ 23 ∷ []) 0 24)
 
 -- 0 is bound to f(1, 1), then to a constant
 abbrev pub repeats : List Call
-repeats = bind_to 0 (over 2 2) ∷ []
+repeats = bind_to 0 (over_term 2 2) ∷ []
 
 abbrev pub OmittingGroundDiffers : Type 0
 OmittingGroundDiffers =
-    Differs OmittingGround repeats 0 constant (row 2 (bound repeats 0 constant) [] [] 0 3) (row 2 (bound repeats 0 constant) [] [] 0 2)
+    Differs OmittingGround repeats 0 constant_term (row 2 (bound repeats 0 constant_term) [] [] 0 3) (row 2 (bound repeats 0 constant_term) [] [] 0 2)

@@ -1,32 +1,28 @@
 -- The worked examples, one to a row.
-use Rattle.std.specs.Prelude.{ℕ, ◌^◌, true, false, List, [], ◌∷◌}
-use Rattle.agreement.specs.Sessions.{Call, bind, join, forget, Answer, accepted, refused}
+use Rattle.std.specs.Prelude.{ℕ, List, [], ◌∷◌}
+use Rattle.agreement.specs.Sessions.{Call, Answer, accepted, refused}
+use Rattle.agreement.specs.declared.call.KeeperCall.TheVariants.{Change}
+use Rattle.domain.specs.Terms.{bare_term, constant_term, over_term}
+use Rattle.domain.specs.declared.change.Change as domain
+use Rattle.domain.specs.declared.change.Change.TheVariants.{Bind, Join, Forget}
+use Rattle.domain.specs.declared.limits.TheConstants.{MOST_GROUPS, TABLE_BYTES}
 use Rattle.domain.specs.declared.refusal.Refusal.TheVariants.{Capacity}
 use Rattle.domain.specs.declared.term.Term.{Term}
 use Rattle.worked.specs.Rows.{Row}
 
--- ---- terms: a position by itself, a constant, and f over the positions of a mask;
--- `twice` is the mask of those that stand more than once
-
-abbrev pub position : ℕ → Term
-position p = record { bare = true; held = 2 ^ p; repeated = 0 }
-
-abbrev pub constant : Term
-constant = record { bare = false; held = 0; repeated = 0 }
-
-abbrev pub over : (held twice : ℕ) → Term
-over held twice = record { bare = false; held = held; repeated = twice }
-
 -- ---- calls, each with as much scratch as it needs
 
+abbrev pub change_by : domain.Change (List ℕ) → Call
+change_by c = record { call = Change c; scratch = TABLE_BYTES; room = 0 }
+
 abbrev pub bind_to : ℕ → Term → Call
-bind_to x t = bind x t 512
+bind_to x t = change_by (Bind x t)
 
 abbrev pub join_with : (free linear : ℕ) → List ℕ → Call
-join_with free linear groups = join free linear groups 512
+join_with free linear groups = change_by (Join (record { marks = record { free = free; linear = linear }; groups = groups }))
 
 abbrev pub forget_all : ℕ → Call
-forget_all m = forget m 512
+forget_all m = change_by (Forget m)
 
 -- ---- rows
 
@@ -39,18 +35,17 @@ abbrev pub row : ℕ → List Call → (groups core : List ℕ) → (free linear
 row n calls groups core free linear =
     record {
       n = n;
-      capacity = 4095;
+      capacity = MOST_GROUPS;
       calls = calls;
       answers = all_accepted calls;
       groups = groups;
       core = core;
-      free = free;
-      linear = linear;
+      marks = record { free = free; linear = linear };
     }
 
 -- at another capacity, with these answers
-abbrev pub within : ℕ → List Answer → Row → Row
-within capacity answers r =
+abbrev pub at_capacity : ℕ → List Answer → Row → Row
+at_capacity capacity answers r =
     record {
       n = r.n;
       capacity = capacity;
@@ -58,13 +53,12 @@ within capacity answers r =
       answers = answers;
       groups = r.groups;
       core = r.core;
-      free = r.free;
-      linear = r.linear;
+      marks = r.marks;
     }
 
 -- 0 bound to f(1, 2, 3), then to f(4, 4)
 abbrev pub five_binds : List Call
-five_binds = bind_to 0 (over 14 0) ∷ bind_to 0 (over 16 16) ∷ []
+five_binds = bind_to 0 (over_term 14 0) ∷ bind_to 0 (over_term 16 16) ∷ []
 
 abbrev pub five : Row
 five = row 5 five_binds (19 ∷ 21 ∷ 23 ∷ 25 ∷ 27 ∷ 29 ∷ 31 ∷ []) (19 ∷ 21 ∷ 23 ∷ 25 ∷ 27 ∷ 29 ∷ []) 0 16
@@ -73,31 +67,31 @@ abbrev pub table : List Row
 table =
     row 2 [] (1 ∷ 2 ∷ []) (1 ∷ 2 ∷ []) 3 3
     -- 0 bound to a position, to f(1, 2), to f(1, 1), to a constant
-    ∷ row 2 (bind_to 0 (position 1) ∷ []) (3 ∷ []) (3 ∷ []) 3 3
-    ∷ row 3 (bind_to 0 (over 6 0) ∷ []) (3 ∷ 5 ∷ []) (3 ∷ 5 ∷ []) 6 7
-    ∷ row 2 (bind_to 0 (over 2 2) ∷ []) (3 ∷ []) (3 ∷ []) 2 2
-    ∷ row 2 (bind_to 0 constant ∷ []) (2 ∷ []) (2 ∷ []) 2 3
+    ∷ row 2 (bind_to 0 (bare_term 1) ∷ []) (3 ∷ []) (3 ∷ []) 3 3
+    ∷ row 3 (bind_to 0 (over_term 6 0) ∷ []) (3 ∷ 5 ∷ []) (3 ∷ 5 ∷ []) 6 7
+    ∷ row 2 (bind_to 0 (over_term 2 2) ∷ []) (3 ∷ []) (3 ∷ []) 2 2
+    ∷ row 2 (bind_to 0 constant_term ∷ []) (2 ∷ []) (2 ∷ []) 2 3
     -- what is bound to a ground position turns ground with it
-    ∷ row 2 (bind_to 0 (position 1) ∷ bind_to 1 constant ∷ []) [] [] 0 3
-    ∷ row 2 (bind_to 0 (over 2 2) ∷ bind_to 0 constant ∷ []) [] [] 0 3
+    ∷ row 2 (bind_to 0 (bare_term 1) ∷ bind_to 1 constant_term ∷ []) [] [] 0 3
+    ∷ row 2 (bind_to 0 (over_term 2 2) ∷ bind_to 0 constant_term ∷ []) [] [] 0 3
     -- 2 bound to f(0, 1), where 0 and 1 share
-    ∷ row 3 (bind_to 0 (position 1) ∷ bind_to 2 (over 3 0) ∷ []) (7 ∷ []) (7 ∷ []) 3 3
+    ∷ row 3 (bind_to 0 (bare_term 1) ∷ bind_to 2 (over_term 3 0) ∷ []) (7 ∷ []) (7 ∷ []) 3 3
     -- 0 bound to f(1, 3, 4), 2 to position 1, then 0 to f(1, 2), where 1 and 2 share
-    ∷ row 5 (bind_to 0 (over 26 0) ∷ bind_to 2 (position 1) ∷ bind_to 0 (over 6 0) ∷ [])
+    ∷ row 5 (bind_to 0 (over_term 26 0) ∷ bind_to 2 (bare_term 1) ∷ bind_to 0 (over_term 6 0) ∷ [])
     (7 ∷ 15 ∷ 23 ∷ 31 ∷ []) (7 ∷ 15 ∷ 23 ∷ 31 ∷ []) 0 0
     -- six core groups fit six places, and not five: the second bind is then refused
     ∷ five
-    ∷ within 6 (accepted ∷ accepted ∷ []) five
-    ∷ within 5 (accepted ∷ refused Capacity ∷ [])
+    ∷ at_capacity 6 (accepted ∷ accepted ∷ []) five
+    ∷ at_capacity 5 (accepted ∷ refused Capacity ∷ [])
     (row 5 five_binds (3 ∷ 5 ∷ 9 ∷ 16 ∷ []) (3 ∷ 5 ∷ 9 ∷ 16 ∷ []) 30 31)
     -- 0 bound to f(1, 2, 6), 3 to f(4, 6, 5), then 0 to position 3
-    ∷ row 7 (bind_to 0 (over 70 0) ∷ bind_to 3 (over 112 0) ∷ bind_to 0 (position 3) ∷ [])
+    ∷ row 7 (bind_to 0 (over_term 70 0) ∷ bind_to 3 (over_term 112 0) ∷ bind_to 0 (bare_term 3) ∷ [])
     (27 ∷ 29 ∷ 43 ∷ 45 ∷ 73 ∷ 75 ∷ 77 ∷ 89 ∷ 91 ∷ 93 ∷ 105 ∷ 107 ∷ 109 ∷ [])
     (27 ∷ 29 ∷ 43 ∷ 45 ∷ 73 ∷ 75 ∷ 77 ∷ 89 ∷ 105 ∷ []) 0 54
     -- 0 bound to f(1, 2), then to f(0, 3), which holds it
-    ∷ row 4 (bind_to 0 (over 6 0) ∷ bind_to 0 (over 9 0) ∷ [])
+    ∷ row 4 (bind_to 0 (over_term 6 0) ∷ bind_to 0 (over_term 9 0) ∷ [])
     (3 ∷ 5 ∷ 7 ∷ 11 ∷ 13 ∷ 15 ∷ []) (3 ∷ 5 ∷ 7 ∷ 11 ∷ 13 ∷ []) 0 8
     -- a join and a forget, after 0 was bound to position 1
-    ∷ row 2 (bind_to 0 (position 1) ∷ join_with 3 3 (1 ∷ 2 ∷ []) ∷ []) (1 ∷ 2 ∷ 3 ∷ []) (1 ∷ 2 ∷ 3 ∷ []) 3 3
-    ∷ row 2 (bind_to 0 (position 1) ∷ forget_all 1 ∷ []) (1 ∷ 2 ∷ []) (1 ∷ 2 ∷ []) 3 3
+    ∷ row 2 (bind_to 0 (bare_term 1) ∷ join_with 3 3 (1 ∷ 2 ∷ []) ∷ []) (1 ∷ 2 ∷ 3 ∷ []) (1 ∷ 2 ∷ 3 ∷ []) 3 3
+    ∷ row 2 (bind_to 0 (bare_term 1) ∷ forget_all 1 ∷ []) (1 ∷ 2 ∷ []) (1 ∷ 2 ∷ []) 3 3
     ∷ []

@@ -8,10 +8,10 @@ use Rattle.keeper.specs.declared.fault.KeeperFault.{KeeperFault}
 use Rattle.keeper.specs.declared.write_out.WrittenOut.{WrittenOut}
 use Rattle.worked.specs.Rows.{Row}
 
--- the row's core at the start of the list, its count and the row's masks; refused only where the list is too short
+-- the row's core at the start of the list, its count and the row's marks; refused only where the list is too short
 abbrev pub WritesRow : Row → List ℕ → List ℕ → Result WrittenOut KeeperFault → Type 0
 WritesRow r list list' (Ok w) =
-    (w.count ≡ length r.core) × (w.free ≡ r.free) × (w.linear ≡ r.linear)
+    (w.count ≡ length r.core) × (w.marks ≡ r.marks)
     × (list' ≡ r.core ++ drop (length r.core) list)
 WritesRow r list list' (Err f) = (f ≡ fault_of Room) × (length list < length r.core)
 

@@ -1,4 +1,4 @@
-// The worked examples of the rules, and the shortcuts that they tell from the rules.
+//! The worked examples of the rules, and the shortcuts that they tell from the rules.
 #![tactic(auto)]
 
 pub mod examples;

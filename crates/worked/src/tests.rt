@@ -1,39 +1,37 @@
-// The rows of the table, run on both keepers.
+//! The rows of the table, run on both keepers.
 use crate::examples::write_example;
+use domain::limits::TABLE_BYTES;
 use domain::listing::Listing;
+use domain::marks::Marks;
 use domain::refusal::Refusal;
 use domain::term::Term;
-use keeper::fault::KeeperFault;
-use keeper::keeper::Keeper;
-use keeper::write_out::WrittenOut;
+use keeper::{Keeper, KeeperFault, WrittenOut};
 use list_keeper::ListKeeper;
 use std::process::Abort;
 use std::test::Fail;
 use table_keeper::TableKeeper;
 
 // A core, as a row says that it is written out in the end, or as it is handed over.
-fn listing(groups: &[u16], free: u16, linear: u16) -> Listing<'_> {
+fn listing(groups: &[u16], free: u16, linear: u16) -> Listing<&[u16]> {
     Listing {
-        free,
-        linear,
+        marks: Marks { free, linear },
         groups,
     }
 }
 
 fn bind_all<K: Keeper>(keeper: &mut K, n: u8, binds: &[(u8, Term)]) -> Result<(), KeeperFault> {
-    keeper.open(n, &mut [0; 512])?;
+    keeper.open(n, &mut [0; TABLE_BYTES])?;
     for (x, term) in binds {
-        keeper.bind(*x, *term, &mut [0; 512])?;
+        keeper.bind(*x, *term, &mut [0; TABLE_BYTES])?;
     }
     Ok(())
 }
 
-fn is_written<K: Keeper>(rt: &impl Abort, keeper: &K, row: Listing<'_>) -> Result<(), Fail> {
+fn is_written<K: Keeper>(rt: &impl Abort, keeper: &K, row: Listing<&[u16]>) -> Result<(), Fail> {
     let mut list = [0u16; 16];
     let wanted = WrittenOut {
         count: row.groups.len(),
-        free: row.free,
-        linear: row.linear,
+        marks: row.marks,
     };
     assert_eq!(rt; write_example(keeper, &mut list)?, wanted);
     assert!(rt; list.starts_with(row.groups));
@@ -45,14 +43,19 @@ fn shows<K: Keeper>(
     keeper: &mut K,
     n: u8,
     binds: &[(u8, Term)],
-    row: Listing<'_>,
+    row: Listing<&[u16]>,
 ) -> Result<(), Fail> {
     bind_all(keeper, n, binds)?;
     is_written(rt, keeper, row)
 }
 
 // On both keepers.
-fn binds_show(rt: &impl Abort, n: u8, binds: &[(u8, Term)], row: Listing<'_>) -> Result<(), Fail> {
+fn binds_show(
+    rt: &impl Abort,
+    n: u8,
+    binds: &[(u8, Term)],
+    row: Listing<&[u16]>,
+) -> Result<(), Fail> {
     shows(rt, &mut TableKeeper::new(), n, binds, row)?;
     shows(rt, &mut ListKeeper::new(&mut [0; 16]), n, binds, row)
 }
@@ -132,7 +135,7 @@ fn six_core_groups(rt: HostRuntime) -> Result<(), Fail> {
 
 #[test]
 fn join_and_forget(rt: HostRuntime) -> Result<(), Fail> {
-    let mut scratch = [0; 512];
+    let mut scratch = [0; TABLE_BYTES];
     let mut joined = TableKeeper::new();
     bind_all(&mut joined, 2, &[(0, Term::position(1))])?;
     joined.join(listing(&[1, 2], 3, 3), &mut scratch)?;

@@ -1,9 +1,7 @@
 use Rattle.std.proofs.Common.{◌≡◌, length, Some, refl, arith}
-use Rattle.domain.specs.Changes.{Makes, lent_change, change_tests}
-use Rattle.domain.specs.Refusals.{first_of}
+use Rattle.domain.specs.Changes.{lent_change}
 use Rattle.domain.specs.Tables.{told_with}
-use Rattle.domain.proofs.ChangeLaws.{change_allowed}
-use Rattle.rules.proofs.Lending.{rule_made}
+use Rattle.rules.proofs.Lending.{change_given}
 use Rattle.list_keeper.proofs.Changes.{changes_stored}
 use Rattle.list_keeper.specs.Tells.{tells, told_by}
 use Rattle.list_keeper.proofs.change.change_list.Goals as goal
@@ -20,8 +18,8 @@ returns-clause-changes c =
     let is : c.args.head.now ≡ Some head = grind arith in
     let kept = c.requires head is in
     let made =
-    rule_made (Makes change) (λ n k. first_of (change_tests n change k)) head.outline (tells head list) c.load.new.table size
-    kept.some kept.few refl (omega arith) (λ none. (change_allowed head.outline.positions change size none).1)
+    change_given change head.outline (tells head list) c.load.new.table size
+    kept.some kept.few refl (omega arith)
     c.load.ensures c.in_ok-left.left c.change_table.new.table c.in_ok-left.ensures.gives in
     changes_stored change size (length list) c.args.head.now head list is kept.some
     (told_by c.store.new.head c.store.new.list) c.store.result (told_with c.in_ok-left.left c.change_table.new.table) made.0 made.1 c.store.ensures.stores

@@ -1,7 +1,7 @@
 use Rattle.std.proofs.Common.{ℕ, ◌<◌, Bool, true, false, List, length, get_or, Decides, MatchBool, arith, rules, tests}
 use Rattle.std.specs.List.{HoldsAt, AllWithin}
 use Rattle.std.proofs.lemmas.Iterator.{cases_from_any, YieldsList-from_slice}
-use Rattle.coverage.proofs.Verdicts.{decides_yes, decides_no}
+use Rattle.coverage.proofs.Searching.{decides_yes, decides_no}
 use Rattle.domain.specs.Masks.{In}
 use Rattle.domain.proofs.Loading.{at_listed}
 use Rattle.list_keeper.proofs.Listing.{none_holds}

@@ -1,7 +1,7 @@
 use Rattle.std.proofs.Common.{arith}
 use Rattle.std.proofs.lemmas.Bool.{both_ways}
 use Rattle.roll.specs.Rolls.{none}
-use Rattle.roll.proofs.Rolls.{counts_more_one, counts_more_other, counts_all}
+use Rattle.roll.proofs.Rolls.{counts_more_one, counts_more_other}
 use Rattle.roll.proofs.search.count_key.Goals as goal
 use Rattle.roll.proofs.search.count_key.Goals.{then-has_key, else-has_key}
 

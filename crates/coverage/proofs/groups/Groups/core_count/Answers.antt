@@ -1,6 +1,7 @@
-use Rattle.std.proofs.Common.{arith}
-use Rattle.coverage.proofs.Verdicts.{decided_no}
-use Rattle.coverage.proofs.Counting.{count_start, count_skip, count_one, count_end, count_as, core_range, core_below}
+use Rattle.std.proofs.Common.{◌<◌, arith}
+use Rattle.std.proofs.lemmas.Bool.Decides.{not_from_Decides}
+use Rattle.coverage.proofs.Counting.{core_range, core_below}
+use Rattle.coverage.proofs.ListedCores.{count_start, count_skip, count_one, count_end}
 use Rattle.domain.proofs.Refusing.{counted_few}
 use Rattle.coverage.proofs.groups.Groups.core_count.Goals as goal
 use Rattle.coverage.proofs.groups.Groups.core_count.Goals.{then-is_core, else-is_core}
@@ -11,14 +12,15 @@ loop-g-init c =
 
 pub loop-g-preserved : goal.loop-g-preserved
 loop-g-preserved c =
+    let low : 0 < c.loop-g.g = omega (arith, c.loop-g.invariant.0) in
     elim c.if-is_core.branch [
       | then-is_core w ↦ (
         omega (arith, w.count-is, c.loop-g.invariant.0),
-        rw w.count-is (count_one ((c.is_core.ensures 0 0).0 w.if-is_core.true) c.loop-g.invariant.1),
+        rw w.count-is (count_one low (c.is_core.ensures.0 w.if-is_core.true) c.loop-g.invariant.1),
       )
       | else-is_core w ↦ (
         omega (arith, w.count-is, c.loop-g.invariant.0),
-        rw w.count-is (count_skip (decided_no (c.is_core.ensures 0 0) w.if-is_core.false) c.loop-g.invariant.1),
+        rw w.count-is (count_skip (not_from_Decides _ c.is_core.ensures w.if-is_core.false) c.loop-g.invariant.1),
       )
     ]
 
@@ -26,8 +28,6 @@ pub returns : goal.returns
 returns c =
     let given = counted_few c.args.self.now.positions tt _ c.in_ok-check_count.ensures in
     rw given.0
-    (λ f l.
-    count_as (λ g t. record { told = t.told }) (λ g t. record { told = t.told })
     (count_end
     (core_below c.args.self.now.positions c.args.self.now.table.now _ given.1 (omega (arith, c.loop-g-test.false)))
-    c.loop-g.invariant.1))
+    c.loop-g.invariant.1)

@@ -1,7 +1,7 @@
 use Rattle.std.proofs.Common.{◌≡◌, ◌<◌, length, refl, ap, ◌∙◌, arith, rules}
 use Rattle.roll.specs.Rolls.{used_after}
 use Rattle.roll.specs.Views.{slots}
-use Rattle.coverage.proofs.Verdicts.{decided_no}
+use Rattle.std.proofs.lemmas.Bool.Decides.{not_from_Decides}
 use Rattle.coverage.proofs.Counting.{core_range, core_below}
 use Rattle.coverage.proofs.ListedCores.{list_start, list_skip, list_one, list_room, list_long, list_below, list_end, fills_over}
 use Rattle.coverage.proofs.groups.Groups.fill_core.Goals as goal
@@ -19,7 +19,7 @@ loop-g-preserved c =
     let inv = c.loop-g.invariant.0 in
     elim c.if-is_core.branch [
       | then-is_core w ↦
-          let core = (c.is_core.ensures 0 0).0 w.if-is_core.true in
+          let core = c.is_core.ensures.0 w.if-is_core.true in
           let room : c.loop-g.roll.used < length (slots c.over-roll.result) =
           omega (arith, list_room low core inv c.requires.fits, ap length c.over-roll.ensures.same) in
           let long : length (slots c.loop-g.roll) ≡ length (slots c.over-roll.result) = list_long (omega arith) inv in
@@ -27,7 +27,7 @@ loop-g-preserved c =
           let used = w.add.ensures.counted ∙ ap (used_after c.loop-g.roll.used) added.0 in
           (rw (w.roll-is, used, added.1) (list_one low room core inv), rw w.roll-is (w.add.ensures.lent ∙ c.loop-g.invariant.1))
       | else-is_core w ↦ (
-        rw w.roll-is (list_skip (decided_no (c.is_core.ensures 0 0) w.if-is_core.false) inv),
+        rw w.roll-is (list_skip (not_from_Decides _ c.is_core.ensures w.if-is_core.false) inv),
         rw w.roll-is c.loop-g.invariant.1,
       )
     ]

@@ -1,5 +1,5 @@
 use Rattle.std.proofs.Common.{◌≡◌}
-use Rattle.coverage.specs.Walks.{TableGroup}
+use Rattle.domain.specs.Tables.{TableGroup}
 use Rattle.coverage.proofs.ListedCores.{ListedTo}
 use Rattle.coverage.proofs.groups.Groups.fill_core.Given as goal
 use Rattle.roll.specs.Views.{slots}

@@ -1,6 +1,6 @@
 use Rattle.std.proofs.Common.{rules}
-use Rattle.coverage.proofs.Verdicts.{decides_yes, decides_no}
-use Rattle.coverage.proofs.Pairs.{closed_more, closed_core, open_core, core_as}
+use Rattle.coverage.proofs.Searching.{decides_yes, decides_no}
+use Rattle.coverage.proofs.Pairs.{closed_more, closed_core, open_core}
 use Rattle.coverage.proofs.groups.Groups.is_core.Goals as goal
 
 pub pairs-preserved : goal.pairs-preserved
@@ -9,15 +9,8 @@ pairs-preserved c =
 
 pub returns-after-pairs : goal.returns-after-pairs
 returns-after-pairs c =
-    λ f l.
-    rw c.pairs.invariant.0
-    (decides_no (λ k.
-    closed_core c.ranges.g.fits c.pairs-test.false c.pairs.invariant.1
-    (core_as (λ g t. record { told = t.told }) (λ g t. record { told = t.told }) k)))
+    rw c.pairs.invariant.0 (decides_no (closed_core c.ranges.g.fits c.pairs-test.false c.pairs.invariant.1))
 
 pub returns-then-is_open : goal.returns-then-is_open
 returns-then-is_open c =
-    λ f l.
-    decides_yes
-    (core_as (λ g t. record { told = t.told }) (λ g t. record { told = t.told })
-    (open_core (record { told = search rules }) (c.is_open.ensures.0 c.if-is_open.true)))
+    decides_yes (open_core (record { told = search rules }) (c.is_open.ensures.0 c.if-is_open.true))

@@ -1,5 +1,5 @@
 use Rattle.std.proofs.Common.{◌≡◌, false}
-use Rattle.coverage.specs.Walks.{TableGroup}
+use Rattle.domain.specs.Tables.{TableGroup}
 use Rattle.coverage.proofs.Pairs.{Closed, ClosedAt}
 use Rattle.coverage.proofs.groups.Groups.is_core.Given as goal
 

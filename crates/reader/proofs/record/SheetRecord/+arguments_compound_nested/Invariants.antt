@@ -1,5 +1,5 @@
 use Rattle.std.proofs.Common.{◌+◌, ◌-◌, ◌*◌, ◌≤◌}
-use Rattle.reader.specs.Terms.{nothing}
+use Rattle.domain.specs.Terms.{constant_term}
 use Rattle.reader.specs.Trees.{args_of, onto, tree_of}
 use Rattle.reader.proofs.Arguments.{From}
 use Rattle.reader.proofs.record.SheetRecord.+arguments_compound_nested.Given as goal
@@ -18,7 +18,7 @@ abbrev pub invariant-arguments-loop-at : goal.invariant-arguments-loop-at
 invariant-arguments-loop-at l =
     (l.at ≤ l.self.frame.end)
     × From l.self.sheet.now (tree_of l.self.sheet.now l.depth) l.all l.at l.self.frame.end
-    (onto nothing (args_of l.self.sheet.now (tree_of l.self.sheet.now l.depth) l.self.frame))
+    (onto constant_term (args_of l.self.sheet.now (tree_of l.self.sheet.now l.depth) l.self.frame))
 
 abbrev pub decreases-arguments-loop-at : goal.decreases-arguments-loop-at
 decreases-arguments-loop-at l = l.self.frame.end - l.at

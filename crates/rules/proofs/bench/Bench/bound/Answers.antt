@@ -1,30 +1,28 @@
-use Rattle.std.proofs.Common.{ℕ, ◌≡◌, ap, ◌∙◌}
+use Rattle.std.proofs.Common.{ℕ, ◌≡◌, ◌↔◌, ap, ◌∙◌, arith}
 use Rattle.domain.specs.Binding.{StaysFree, StaysLinear}
+use Rattle.domain.specs.Groups.{IsGround}
 use Rattle.domain.specs.Masks.{In}
-use Rattle.domain.specs.Tables.{told_of}
-use Rattle.domain.specs.Told.{Ground}
+use Rattle.domain.specs.Tables.{TableGroup, told_with}
 use Rattle.rules.specs.Signs.{Seen}
-use Rattle.rules.proofs.Binding.{bound_made}
+use Rattle.rules.proofs.Binding.{bound_of, fits_of}
 use Rattle.rules.proofs.bench.Bench.bound.Goals as goal
 
 pub returns-clause-gives : goal.returns-clause-gives
 returns-clause-gives c =
-    let n = c.args.self.now.marks.positions in
-    let x = c.args.allowed.x in
-    let t = c.args.allowed.term in
+    let bench = c.args.self.now in
+    let n = bench.outline.positions in
+    let x = c.args.position in
+    let t = c.args.term in
     let v = c.view.ensures in
-    let d = told_of n c.args.self.now.table.now c.args.self.now.marks.free c.args.self.now.marks.linear in
-    let seen : Seen d x t c.signs-signs.result = rw (← v.table, ← v.positions, ← v.free, ← v.linear) c.signs-signs.ensures in
-    let free_kept : (p : ℕ) → StaysFree d x t p → In p c.kept-kept.result.free = rw (← v.table, ← v.positions, ← v.free, ← v.linear) c.kept-kept.ensures.free_kept in
-    let free_only : (p : ℕ) → In p c.kept-kept.result.free → StaysFree d x t p = rw (← v.table, ← v.positions, ← v.free, ← v.linear) c.kept-kept.ensures.free_only in
-    let linear_kept : (p : ℕ) → StaysLinear d x t p → In p c.kept-kept.result.linear = rw (← v.table, ← v.positions, ← v.free, ← v.linear) c.kept-kept.ensures.linear_kept in
-    let linear_only : (p : ℕ) → In p c.kept-kept.result.linear → StaysLinear d x t p = rw (← v.table, ← v.positions, ← v.free, ← v.linear) c.kept-kept.ensures.linear_only in
-    let same : c.view-2.result.groups.positions ≡ n = c.view-2.ensures.positions ∙ ap (λ m. m.positions) c.rewrite.ensures.kept in
-    let ground_made : (f l p : ℕ) → In p c.ground_mask-ground.result → Ground (told_of n c.rewrite.new.self.table.now f l) p = rw (← c.view-2.ensures.table, ← same) c.ground_mask-ground.ensures.made in
-    let ground_all : (f l p : ℕ) → Ground (told_of n c.rewrite.new.self.table.now f l) p → In p c.ground_mask-ground.result = rw (← c.view-2.ensures.table, ← same) c.ground_mask-ground.ensures.all in
-    bound_made n c.args.self.now.table.now c.args.self.now.marks.free c.args.self.now.marks.linear x t
-    c.signs-signs.result c.chosen.result c.rewrite.new.self.table.now
-    c.kept-kept.result.free c.kept-kept.result.linear c.ground_mask-ground.result
-    seen c.chosen.ensures c.rewrite.ensures.made
-    free_kept free_only linear_kept linear_only
-    ground_made ground_all
+    let d = told_with bench.outline bench.table.now in
+    let seen : Seen d x t c.signs-signs.result = rw (← v.table, ← v.positions, ← v.marks) c.signs-signs.ensures in
+    let free : (p : ℕ) → In p c.kept-free.result.free ↔ StaysFree d x t p = rw (← v.table, ← v.positions, ← v.marks) c.kept-free.ensures.free in
+    let linear : (p : ℕ) → In p c.kept-free.result.linear ↔ StaysLinear d x t p = rw (← v.table, ← v.positions, ← v.marks) c.kept-free.ensures.linear in
+    let same : c.view-2.result.groups.positions ≡ n = c.view-2.ensures.positions ∙ ap (λ o. o.positions) c.rewrite.ensures.kept in
+    let ground : (p : ℕ) → In p c.ground_mask-ground.result ↔ IsGround n (TableGroup n c.rewrite.new.self.table.now) p =
+    rw (← c.view-2.ensures.table, ← same) c.ground_mask-ground.ensures in
+    bound_of n bench.table.now bench.outline.marks x t c.chosen.result c.rewrite.new.self.table.now
+    c.kept-free.result.free c.kept-free.result.linear c.ground_mask-ground.result
+    (fits_of d x t c.signs-signs.result c.chosen.result seen c.chosen.ensures)
+    (rw (c.single.ensures.inside (omega arith)) at c.rewrite.ensures.made)
+    free linear ground

@@ -1,9 +1,10 @@
-use Rattle.std.proofs.Common.{rules}
 use Rattle.domain.proofs.Joining.{joined_of}
+use Rattle.domain.specs.Changes.{lent_listing}
 use Rattle.rules.proofs.bench.Bench.joined.Goals as goal
 
 pub returns-clause-gives : goal.returns-clause-gives
 returns-clause-gives c =
-    joined_of c.args.self.now.marks.positions c.args.self.now.table.now c.put_groups.new.table c.args.self.now.marks.free c.args.self.now.marks.linear
-    c.args.other.free c.args.other.linear c.args.other.groups.now (search rules) (search rules) c.requires
+    let bench = c.args.self.now in
+    joined_of bench.outline.positions bench.table.now c.put_groups.new.table bench.outline.marks
+    (lent_listing c.args.other) bench.few bench.room c.requires
     c.put_groups.ensures.put c.put_groups.ensures.grown c.put_groups.ensures.only

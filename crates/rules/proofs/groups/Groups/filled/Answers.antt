@@ -1,16 +1,16 @@
 use Rattle.std.proofs.Common.{refl, rules}
 use Rattle.std.proofs.lemmas.Bool.Decides.{not_from_Decides}
 use lib.Bits.{bit_and, bit_or, bit_xor}
-use Rattle.domain.specs.Filling.{Side, Fills}
-use Rattle.domain.specs.Told.{Group}
-use Rattle.rules.specs.Views.{told_in}
+use Rattle.domain.specs.Filling.{Fills}
+use Rattle.domain.specs.Groups.{Side}
+use Rattle.domain.specs.Tables.{TableGroup}
 use Rattle.domain.proofs.Descending.{any_decides}
 use Rattle.domain.proofs.Filling.{decides_filled}
 use Rattle.rules.proofs.groups.Groups.filled.Goals as goal
 
 pub returns-else-fills : goal.returns-else-fills
 returns-else-fills c =
-    let A = Side (Group (told_in c.args.self)) c.args.a in
+    let A = Side (TableGroup c.args.self.positions c.args.self.table.now) c.args.a in
     let base = c.args.base in
     let u = c.args.u in
     let common = bit_and u base in

@@ -1,5 +1,0 @@
-use Rattle.coverage.proofs.BindCover.{bind_cover_to, bind_cover_from}
-use Rattle.coverage.proofs.binding.bind_covers_by_coverage.Goals as goal
-
-pub returns : goal.returns
-returns c = λ d x v k w p q. (λ h. bind_cover_to h, λ h. bind_cover_from h)

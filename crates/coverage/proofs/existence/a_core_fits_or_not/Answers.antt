@@ -1,5 +1,0 @@
-use Rattle.coverage.proofs.ExistsFit.{fits_or_not}
-use Rattle.coverage.proofs.existence.a_core_fits_or_not.Goals as goal
-
-pub returns : goal.returns
-returns c = λ d k l. fits_or_not d k l

@@ -1,5 +1,0 @@
-use Rattle.coverage.proofs.Kept.{new_lawful}
-use Rattle.coverage.proofs.keeping.new_is_lawful.Goals as goal
-
-pub returns : goal.returns
-returns c = λ n e some few k. new_lawful some few k

@@ -1,5 +1,0 @@
-use Rattle.coverage.proofs.Places.{new_alike}
-use Rattle.coverage.proofs.likeness.new_are_alike.Goals as goal
-
-pub returns : goal.returns
-returns c = λ n d e u v. new_alike u v
