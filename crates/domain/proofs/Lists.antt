@@ -1,5 +1,5 @@
 -- Lists of groups by cases: what stands in one, and that it ascends.
-use Rattle.std.proofs.Common.{◌≡◌, ℕ, zero, suc, ◌+◌, ◌<◌, ◌≤◌, List, [], ◌∷◌, length, get_or, Contains, sym, refl, subst, arith}
+use Rattle.std.proofs.Common.{◌≡◌, ℕ, zero, suc, ◌+◌, ◌<◌, ◌≤◌, ◌⊎◌, List, [], ◌∷◌, length, get_or, Contains, sym, refl, subst, inl, inr, arith}
 use Rattle.std.specs.List.Sorted.{IsStrictlyIncreasing}
 use Rattle.std.proofs.lemmas.List.Elements.{Contains-get_or}
 use Rattle.domain.specs.Coverage.{Core, CoreFits, CoreList}
@@ -22,10 +22,19 @@ listed_at (h ∷ gs) (suc k) l e = there (listed_at gs k (omega arith) e)
 pub listed : (gs : List ℕ) (g : ℕ) → Contains gs g → Listed g gs
 listed gs g c = listed_at gs c.0 c.1 c.2
 
+pub listed_cases : {g h : ℕ} {gs : List ℕ} → Listed g (h ∷ gs) → (g ≡ h) ⊎ Listed g gs
+listed_cases here = inl refl
+listed_cases (there l) = inr l
+
 -- each entry is above `last` and above those before it
 pub data Above : ℕ → List ℕ → Type 0 where
   none : {last : ℕ} → Above last []
   next : {last g : ℕ} {gs : List ℕ} → last < g → Above g gs → Above last (g ∷ gs)
+
+pub above_listed : {last g : ℕ} {gs : List ℕ} → Above last gs → Listed g gs → last < g
+above_listed none l = elim l [ ]
+above_listed (next l a) here = l
+above_listed (next l a) (there m) = omega (arith, l, above_listed a m)
 
 pub above_increasing : {last : ℕ} {gs : List ℕ} → Above last gs → IsStrictlyIncreasing gs
 above_increasing none k h = absurd (omega arith)

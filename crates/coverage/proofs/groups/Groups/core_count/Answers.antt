@@ -1,13 +1,13 @@
 use Rattle.std.proofs.Common.{arith}
 use Rattle.std.proofs.lemmas.Bool.Decides.{not_from_Decides}
-use Rattle.coverage.proofs.Counting.{count_start, count_skip, count_one, count_end, core_range, core_below}
+use Rattle.coverage.proofs.Counting.{count_start, count_skip, count_one, count_end, core_below}
 use Rattle.domain.proofs.Refusing.{counted_few}
 use Rattle.coverage.proofs.groups.Groups.core_count.Goals as goal
 use Rattle.coverage.proofs.groups.Groups.core_count.Goals.{then-is_core, else-is_core}
 
 pub loop-g-init : goal.loop-g-init
 loop-g-init c =
-    (omega arith, count_start (λ k. omega (arith, (core_range c.args.self.now.positions c.args.self.now.table.now 0 k).0)))
+    (omega arith, count_start)
 
 pub loop-g-preserved : goal.loop-g-preserved
 loop-g-preserved c =
