@@ -62,8 +62,8 @@ fits_listed f g c = listed f.groups g (f.holds g c)
 pub listed_fits : {G : ℕ → Type 0} {k : ℕ} → (gs : List ℕ) → length gs ≤ k → ((g : ℕ) → Core G g → Listed g gs) → CoreFits G k
 listed_fits gs short holds = record { groups = gs; short = short; holds = λ g c. contains (holds g c) }
 
-pub core_list : {G : ℕ → Type 0} {gs : List ℕ} → ((g : ℕ) → Listed g gs → Core G g) → ((g : ℕ) → Core G g → Listed g gs) → Above 0 gs → CoreList G gs
-core_list {gs = gs} only all above =
+pub listed_core : {G : ℕ → Type 0} {gs : List ℕ} → ((g : ℕ) → Listed g gs → Core G g) → ((g : ℕ) → Core G g → Listed g gs) → Above 0 gs → CoreList G gs
+listed_core {gs = gs} only all above =
     record { only = λ g c. only g (listed gs g c); all = λ g c. contains (all g c); ascending = above_increasing above }
 
 pub core_above : {G : ℕ → Type 0} {gs : List ℕ} → CoreList G gs → Above 0 gs
