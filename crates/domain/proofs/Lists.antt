@@ -1,8 +1,8 @@
 -- Lists of groups by cases: what stands in one, and that it ascends.
-use Rattle.std.proofs.Common.{◌≡◌, ℕ, zero, suc, ◌+◌, ◌<◌, ◌≤◌, ◌⊎◌, List, [], ◌∷◌, length, get_or, Contains, sym, refl, subst, inl, inr, arith}
+use Rattle.std.proofs.Common.{◌≡◌, ℕ, zero, suc, ◌+◌, ◌<◌, ◌⊎◌, List, [], ◌∷◌, length, get_or, Contains, sym, refl, subst, inl, inr, arith}
 use Rattle.std.specs.List.Sorted.{IsStrictlyIncreasing}
 use Rattle.std.proofs.lemmas.List.Elements.{Contains-get_or}
-use Rattle.domain.specs.Coverage.{Core, CoreFits, CoreList}
+use Rattle.domain.specs.Coverage.{Core, CoreList}
 use Rattle.domain.proofs.Bits.{in_pos}
 
 -- g stands in a list
@@ -54,13 +54,7 @@ increasing_above last (g ∷ gs) low up =
         let later : suc k + 1 ≡ suc (k + 1) = omega arith in
         subst (λ j. get_or gs k 0 < get_or (g ∷ gs) j 0) later (up (suc k) (omega arith))
 
--- a core and its list
-
-pub fits_listed : {G : ℕ → Type 0} {k : ℕ} (f : CoreFits G k) → (g : ℕ) → Core G g → Listed g f.groups
-fits_listed f g c = listed f.groups g (f.holds g c)
-
-pub listed_fits : {G : ℕ → Type 0} {k : ℕ} → (gs : List ℕ) → length gs ≤ k → ((g : ℕ) → Core G g → Listed g gs) → CoreFits G k
-listed_fits gs short holds = record { groups = gs; short = short; holds = λ g c. contains (holds g c) }
+-- the core as a list
 
 pub listed_core : {G : ℕ → Type 0} {gs : List ℕ} → ((g : ℕ) → Listed g gs → Core G g) → ((g : ℕ) → Core G g → Listed g gs) → Above 0 gs → CoreList G gs
 listed_core {gs = gs} only all above =
