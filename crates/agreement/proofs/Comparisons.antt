@@ -1,9 +1,8 @@
 -- What two write-outs say of two descriptions.
-use Rattle.std.proofs.Common.{◌≡◌, ℕ, Bool, true, false, List, length, take, drop, Ok, Err, Decides, Result, sym, refl, ap, ◌∙◌, subst, take_at}
+use Rattle.std.proofs.Common.{◌≡◌, ℕ, Bool, true, false, List, length, take, drop, Contains, Ok, Err, Decides, Result, sym, refl, ap, ◌∙◌, subst, take_at}
 use Rattle.std.proofs.lemmas.Bool.{false≢true}
 use Rattle.coverage.proofs.CoreLeast.{core_kept, same_core}
 use Rattle.coverage.proofs.Cover.{same_turned}
-use Rattle.domain.specs.Coverage.{Listed}
 use Rattle.domain.specs.Told.{Told}
 use Rattle.domain.specs.declared.marks.Marks.{Marks}
 use Rattle.keeper.specs.Calls.{Writes}
@@ -50,8 +49,8 @@ module _ (s t : Told) (first first' second second' : List ℕ) (w v : WrittenOut
       record {
         marks = sym h.1 ∙ ap (λ (x : WrittenOut). x.marks) e ∙ k.1;
         cover = same_core s t
-            (λ u i. k.2.1.only u (subst (λ (l : List ℕ). Listed u l) groups (h.2.1.all u i)))
-            (λ u i. h.2.1.only u (subst (λ (l : List ℕ). Listed u l) (sym groups) (k.2.1.all u i)));
+            (λ u i. k.2.1.only u (subst (λ (l : List ℕ). Contains l u) groups (h.2.1.all u i)))
+            (λ u i. h.2.1.only u (subst (λ (l : List ℕ). Contains l u) (sym groups) (k.2.1.all u i)));
       }
 
   -- and the other way round

@@ -1,10 +1,7 @@
 -- A set of groups has one core list, and alike descriptions have the same.
 use Rattle.std.proofs.Common.{◌≡◌, ℕ, ◌<◌, List, [], ◌∷◌, sym, refl, ap, ◌∙◌, inl, inr, arith}
-use Rattle.domain.specs.Coverage.{Listed, here, there, Core}
-use Rattle.domain.specs.Coverage.{CoreList}
-use Rattle.domain.specs.Lists.{Above, next}
-use Rattle.coverage.proofs.Counting.{listed_cases, empty_listed}
-use Rattle.coverage.proofs.ExistsFit.{above_listed}
+use Rattle.domain.specs.Coverage.{Core, CoreList}
+use Rattle.domain.proofs.Lists.{Listed, here, there, contains, listed, listed_cases, Above, next, above_listed, core_above}
 
 -- the heads of two ascending lists with the same entries
 one_head : (g h : ℕ) (gs hs : List ℕ) → Above g gs → Above h hs → Listed g (h ∷ hs) → Listed h (g ∷ gs) → g ≡ h
@@ -29,8 +26,8 @@ behind {g} {h} {k} e a l m =
 pub one_list : (last last' : ℕ) (gs hs : List ℕ) → Above last gs → Above last' hs
     → ((g : ℕ) → Listed g gs → Listed g hs) → ((g : ℕ) → Listed g hs → Listed g gs) → gs ≡ hs
 one_list last last' [] [] a b to from = refl
-one_list last last' [] (h ∷ hs) a b to from = empty_listed (from h here)
-one_list last last' (g ∷ gs) [] a b to from = empty_listed (to g here)
+one_list last last' [] (h ∷ hs) a b to from = elim (from h here) [ ]
+one_list last last' (g ∷ gs) [] a b to from = elim (to g here) [ ]
 one_list last last' (g ∷ gs) (h ∷ hs) (next p a) (next q b) to from =
     let same : g ≡ h = one_head g h gs hs a b (to g here) (from h here) in
     let rest : gs ≡ hs = one_list g h gs hs a b (λ k l. behind same a l (to k (there l))) (λ k l. behind (sym same) b l (from k (there l))) in
@@ -40,4 +37,5 @@ one_list last last' (g ∷ gs) (h ∷ hs) (next p a) (next q b) to from =
 pub one_core : {G H : ℕ → Type 0} (gs hs : List ℕ) → ((g : ℕ) → Core G g → Core H g) → ((g : ℕ) → Core H g → Core G g)
     → CoreList G gs → CoreList H hs → gs ≡ hs
 one_core gs hs to from c k =
-    one_list 0 0 gs hs c.ascending k.ascending (λ g l. k.all g (to g (c.only g l))) (λ g l. c.all g (from g (k.only g l)))
+    one_list 0 0 gs hs (core_above c) (core_above k) (λ g l. listed hs g (k.all g (to g (c.only g (contains l)))))
+    (λ g l. listed gs g (c.all g (from g (k.only g (contains l)))))

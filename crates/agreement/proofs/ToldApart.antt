@@ -1,10 +1,10 @@
 -- Alike keepers are those that nothing tells apart.
-use Rattle.std.proofs.Common.{◌≡◌, ℕ, ◌+◌, ◌<◌, ◌≤◌, true, not, List, [], ◌∷◌, ◌++◌, length, drop, replicate, Ok, sym, refl, ap, ◌∙◌, subst, arith, take_at, ne_eqb}
+use Rattle.std.proofs.Common.{◌≡◌, ℕ, ◌+◌, ◌<◌, ◌≤◌, true, not, List, [], ◌∷◌, ◌++◌, length, drop, replicate, Contains, Ok, sym, refl, ap, ◌∙◌, subst, arith, take_at, ne_eqb}
 use lib.ListN.{length-replicate}
 use Rattle.coverage.proofs.CoreLeast.{core_kept, same_core}
 use Rattle.coverage.proofs.Cover.{alike_turned, same_turned, alike_trans}
 use Rattle.coverage.proofs.ExistsCore.{core_listed}
-use Rattle.domain.specs.Coverage.{Alike, CoreList, Listed}
+use Rattle.domain.specs.Coverage.{Alike, CoreList}
 use Rattle.domain.specs.Told.{Told, Group}
 use Rattle.keeper.specs.Calls.{opened}
 use Rattle.agreement.proofs.Calls.{session_same}
@@ -90,6 +90,6 @@ not_told_apart k s t n cs ds d e gs rd gt re = (forth, back)
               positions = dn ∙ sym en;
               marks = ds'.marks ∙ marks_same ∙ sym et.marks;
               cover = same_core d e
-                  (λ g i. f.only g (subst (λ (l : List ℕ). Listed g l) core_same (c.all g i)))
-                  (λ g i. c.only g (subst (λ (l : List ℕ). Listed g l) (sym core_same) (f.all g i)));
+                  (λ g i. f.only g (subst (λ (l : List ℕ). Contains l g) core_same (c.all g i)))
+                  (λ g i. c.only g (subst (λ (l : List ℕ). Contains l g) (sym core_same) (f.all g i)));
             }

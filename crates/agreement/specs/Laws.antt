@@ -1,6 +1,6 @@
 -- The laws over runs, for keepers of any build and any list of calls.
-use Rattle.std.specs.Prelude.{◌≡◌, ℕ, ◌↔◌, List, ◌++◌, length, drop, Ok, Err, Result}
-use Rattle.domain.specs.Coverage.{Alike, SameCover, CoreList, Listed}
+use Rattle.std.specs.Prelude.{◌≡◌, ℕ, ◌↔◌, List, ◌++◌, length, drop, Contains, Ok, Err, Result}
+use Rattle.domain.specs.Coverage.{Alike, SameCover, CoreList}
 use Rattle.domain.specs.Told.{Told, Group}
 use Rattle.keeper.specs.declared.fault.KeeperFault.{KeeperFault}
 use Rattle.keeper.specs.declared.write_out.WrittenOut.{WrittenOut}
@@ -35,8 +35,8 @@ pub record OneReckoned : Type 0 where
 -- gs is the core of d, covers the same pairs in every window, and every list that does so holds each of its groups
 pub record LeastCover (d : Told) (gs : List ℕ) : Type 0 where
   pub core : CoreList (Group d) gs
-  pub same : SameCover (λ g. Listed g gs) (Group d)
-  pub least : (hs : List ℕ) → SameCover (λ g. Listed g hs) (Group d) → (g : ℕ) → Listed g gs → Listed g hs
+  pub same : SameCover (Contains gs) (Group d)
+  pub least : (hs : List ℕ) → SameCover (Contains hs) (Group d) → (g : ℕ) → Contains gs g → Contains hs g
 
 -- what a write-out that is not refused gives of the reckoned description d
 pub record WritesLeast (d : Told) (list list' : List ℕ) (w : WrittenOut) : Type 0 where

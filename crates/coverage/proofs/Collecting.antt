@@ -1,14 +1,11 @@
--- What is collected of the numbers of which a decidable statement holds: a test, a mask, an ascending list.
-use Rattle.std.proofs.Common.{◌≡◌, ℕ, zero, suc, ◌+◌, ◌^◌, ◌<◌, ◌≤◌, Bool, true, false, List, [], ◌∷◌, sym, refl, subst, inl, inr, pow-suc, arith}
+-- What is collected of the numbers of which a decidable statement holds: a test, a mask.
+use Rattle.std.proofs.Common.{◌≡◌, ℕ, zero, suc, ◌^◌, ◌<◌, Bool, true, false, sym, refl, subst, inl, inr, pow-suc, arith}
 use native.Mathlib.Decide.{ℕ_discrete}
 use lib.Bits.{bit_or}
 use Rattle.std.proofs.lemmas.Bool.{false≢true}
 use Rattle.domain.specs.Masks.{In}
-use Rattle.domain.specs.Lists.{Above, none, next}
-use Rattle.domain.specs.Coverage.{Listed, here, there}
 use Rattle.domain.specs.Told.{Passes}
 use Rattle.domain.proofs.Bits.{none_in, in_left, in_right, in_either, in_single, single_in, within_le}
-use Rattle.coverage.proofs.Counting.{listed_cases, empty_listed}
 
 -- ---- a test
 
@@ -94,49 +91,3 @@ module _ {P : ℕ → Type 0} (dec : (p : ℕ) → Dec (P p)) where
   positions n below =
       let r = positions_to n in
       record { mask = r.mask; only = r.only; all = λ p t. r.all p (below p t) t }
-
--- ---- an ascending list
-
-pub record Numbers (P : ℕ → Type 0) (last : ℕ) : Type 0 where
-  pub list : List ℕ
-  pub only : (g : ℕ) → Listed g list → P g
-  pub all : (g : ℕ) → last < g → P g → Listed g list
-  pub above : Above last list
-
-above_lower : {m : ℕ} {gs : List ℕ} → Above (suc m) gs → Above m gs
-above_lower none = none
-above_lower (next h a) = next (omega arith) a
-
-module _ {P : ℕ → Type 0} (dec : (g : ℕ) → Dec (P g)) (n : ℕ) (below : (g : ℕ) → P g → g < n) where
-  -- those above `last`, where at most j numbers are left up to n
-  numbers_from : (j last : ℕ) → n ≤ last + j → Numbers P last
-  numbers_from zero last h =
-      record { list = []; only = λ g l. empty_listed l; all = λ g k t. absurd (omega (arith, below g t)); above = none }
-  numbers_from (suc j) last h =
-      let r = numbers_from j (suc last) (omega arith) in
-      elim (dec (suc last)) [
-        | yes t ↦
-            record {
-              list = suc last ∷ r.list;
-              only = λ g l. elim (listed_cases l) [ inl e ↦ subst P (sym e) t | inr m ↦ r.only g m ];
-              all =
-                  λ g k s.
-                  elim (ℕ_discrete g (suc last)) [
-                    | yes e ↦ subst (λ m. Listed g (m ∷ r.list)) e here
-                    | no ne ↦ there (r.all g (omega arith) s)
-                  ];
-              above = next (omega arith) r.above;
-            }
-        | no m ↦
-            record {
-              list = r.list;
-              only = r.only;
-              all =
-                  λ g k s.
-                  elim (ℕ_discrete g (suc last)) [ yes e ↦ absurd (m (subst P e s)) | no ne ↦ r.all g (omega arith) s ];
-              above = above_lower r.above;
-            }
-      ]
-
-  pub numbers : (last : ℕ) → Numbers P last
-  numbers last = numbers_from n last (omega arith)

@@ -1,10 +1,13 @@
 -- A new description, a join and a forget each have a result.
-use Rattle.std.proofs.Common.{◌≡◌, ℕ, suc, ◌-◌, ◌^◌, ◌<◌, ◌⊎◌, List, [], ◌∷◌, sym, refl, subst, inl, inr, arith}
+use Rattle.std.proofs.Common.{◌≡◌, ℕ, suc, ◌-◌, ◌^◌, ◌<◌, ◌⊎◌, Bool, true, false, eqb, List, Contains, sym, refl, ◌∙◌, subst, inl, inr, arith}
 use native.Mathlib.Decide.{dec_lt, ℕ_discrete, map_dec}
 use lib.Bits.{bit_and, bit_or}
+use Rattle.std.specs.List.{list_any}
+use Rattle.std.proofs.lemmas.Bool.{eqb-true, false≢true}
+use Rattle.std.proofs.lemmas.Cmp.{nat_eq_equiv}
+use Rattle.std.proofs.lemmas.Map.Views.{Contains-from_any, list_any-from_Contains}
 use Rattle.domain.specs.Masks.{In, without}
 use Rattle.domain.specs.Told.{Told, Group}
-use Rattle.domain.specs.Coverage.{Listed, here, there}
 use Rattle.domain.specs.Opening.{Single, New}
 use Rattle.domain.specs.Joining.{Joined}
 use Rattle.domain.specs.Forgetting.{Stripped, Renewed, Left, Forgotten}
@@ -12,7 +15,6 @@ use Rattle.domain.specs.declared.listing.Listing.{Listing}
 use Rattle.domain.proofs.Bits.{in_all, all_in, in_left, in_right, in_either, in_both, in_first, in_second, in_lacking, lacking_in, within_le, same_mask}
 use Rattle.coverage.proofs.Searching.{dec_both, dec_either, dec_some, dec_in, in_sum}
 use Rattle.coverage.proofs.Collecting.{Tested, tested, in_lt}
-use Rattle.coverage.proofs.Counting.{listed_cases, empty_listed}
 use Rattle.coverage.proofs.CoreLeast.{dec_group}
 
 -- ---- new
@@ -40,15 +42,16 @@ new_made n =
 
 -- ---- join
 
-pub dec_listed : (g : ℕ) (hs : List ℕ) → Dec (Listed g hs)
-dec_listed g [] = no (λ l. empty_listed l)
-dec_listed g (h ∷ hs) =
-    map_dec (λ s. elim s [ inl e ↦ subst (λ m. Listed g (m ∷ hs)) e here | inr l ↦ there l ]) (λ l. listed_cases l)
-    (dec_either (ℕ_discrete g h) (dec_listed g hs))
+dec_contains : (hs : List ℕ) (g : ℕ) → Dec (Contains hs g)
+dec_contains hs g = go (list_any (eqb g) hs) refl
+  where
+    go : (b : Bool) → list_any (eqb g) hs ≡ b → Dec (Contains hs g)
+    go true e = yes (Contains-from_any eqb-true g hs e)
+    go false e = no (λ c. false≢true (sym e ∙ list_any-from_Contains nat_eq_equiv g hs c))
 
 pub join_made : (d : Told) (other : Listing (List ℕ)) → (e : Told) × Joined d other e
 join_made d other =
-    let t : Tested (λ g. Group d g ⊎ Listed g other.groups) = tested (λ g. dec_either (dec_group d g) (dec_listed g other.groups)) in
+    let t : Tested (λ g. Group d g ⊎ Contains other.groups g) = tested (λ g. dec_either (dec_group d g) (dec_contains other.groups g)) in
     let m = d.marks in
     let k = other.marks in (
       record { n = d.n; groups = t.test; marks = record { free = bit_and m.free k.free; linear = bit_and m.linear k.linear } },

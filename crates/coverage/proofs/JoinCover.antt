@@ -1,7 +1,7 @@
 -- What a join covers, and that it takes alike descriptions to alike ones.
-use Rattle.std.proofs.Common.{ℕ, ◌⊎◌, List, sym, ◌∙◌, inl, inr}
+use Rattle.std.proofs.Common.{ℕ, ◌⊎◌, List, Contains, sym, ◌∙◌, inl, inr}
 use Rattle.domain.specs.Told.{Told, Group}
-use Rattle.domain.specs.Coverage.{Covers, Listed, Alike}
+use Rattle.domain.specs.Coverage.{Covers, Alike}
 use Rattle.domain.specs.Joining.{Joined}
 use Rattle.domain.specs.declared.listing.Listing.{Listing}
 use Rattle.coverage.proofs.Cover.{covers_more, alike_turned, PartOf, both_alike}
@@ -16,10 +16,10 @@ union_cover f k =
     ]
 
 module _ {d e : Told} {other : Listing (List ℕ)} (j : Joined d other e) {w p q : ℕ} where
-  pub join_cover_to : Covers (Group e) w p q → Covers (Group d) w p q ⊎ Covers (λ g. Listed g other.groups) w p q
+  pub join_cover_to : Covers (Group e) w p q → Covers (Group d) w p q ⊎ Covers (Contains other.groups) w p q
   join_cover_to k = union_cover j.groups_only k
 
-  pub join_cover_from : Covers (Group d) w p q ⊎ Covers (λ g. Listed g other.groups) w p q → Covers (Group e) w p q
+  pub join_cover_from : Covers (Group d) w p q ⊎ Covers (Contains other.groups) w p q → Covers (Group e) w p q
   join_cover_from (inl k) = covers_more (λ g t. j.groups_made g (inl t)) k
   join_cover_from (inr k) = covers_more (λ g t. j.groups_made g (inr t)) k
 

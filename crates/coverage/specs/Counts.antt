@@ -1,20 +1,15 @@
 -- How many groups a core has.
-use Rattle.std.specs.Prelude.{◌≡◌, ℕ, ◌≤◌, ◌↔◌, List, [], ◌∷◌, length}
+use Rattle.std.specs.Prelude.{◌≡◌, ℕ, ◌≤◌, ◌≢◌, ◌↔◌, List, length, Contains, AllPairs}
 use Rattle.domain.specs.Told.{Told, Group}
-use Rattle.domain.specs.Coverage.{Core, Listed, CoreFits, Alike}
+use Rattle.domain.specs.Coverage.{Core, CoreFits, Alike}
 
--- no number stands twice in the list
-pub data Distinct : List ℕ → Type 0 where
-  none : Distinct []
-  more : {g : ℕ} {gs : List ℕ} → (Listed g gs → ⊥) → Distinct gs → Distinct (g ∷ gs)
-
--- the core has exactly k groups
+-- the core has exactly k groups: they stand in a list of k entries, each once
 pub record CoreCount (G : ℕ → Type 0) (k : ℕ) : Type 0 where
   pub groups : List ℕ
   pub counted : length groups ≡ k
-  pub once : Distinct groups
-  pub only : (g : ℕ) → Listed g groups → Core G g
-  pub all : (g : ℕ) → Core G g → Listed g groups
+  pub once : AllPairs (λ g h. g ≢ h) groups
+  pub only : (g : ℕ) → Contains groups g → Core G g
+  pub all : (g : ℕ) → Core G g → Contains groups g
 
 -- a core of k groups fits a capacity exactly where k is not above it
 abbrev pub CountDecidesFit : Type 0

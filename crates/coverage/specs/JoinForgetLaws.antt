@@ -1,8 +1,8 @@
 -- How a join and a forget act on coverage.
-use Rattle.std.specs.Prelude.{◌≡◌, ℕ, ◌⊎◌, ◌↔◌, List, bit_or}
+use Rattle.std.specs.Prelude.{◌≡◌, ℕ, ◌⊎◌, ◌↔◌, List, Contains, bit_or}
 use Rattle.domain.specs.Masks.{In}
 use Rattle.domain.specs.Told.{Told, Group}
-use Rattle.domain.specs.Coverage.{Covers, Listed}
+use Rattle.domain.specs.Coverage.{Covers}
 use Rattle.domain.specs.Forgetting.{Forgotten}
 use Rattle.domain.specs.Joining.{Joined}
 use Rattle.domain.specs.declared.listing.Listing.{Listing}
@@ -11,7 +11,7 @@ use Rattle.domain.specs.declared.listing.Listing.{Listing}
 abbrev pub JoinCoverage : Type 0
 JoinCoverage =
     (d e : Told) (other : Listing (List ℕ)) (w p q : ℕ) → Joined d other e
-    → Covers (Group e) w p q ↔ (Covers (Group d) w p q ⊎ Covers (λ g. Listed g other.groups) w p q)
+    → Covers (Group e) w p q ↔ (Covers (Group d) w p q ⊎ Covers (Contains other.groups) w p q)
 
 -- the pair is covered after the positions of m are forgotten: two others where they were covered
 -- in the window together with m, and one of m only with itself

@@ -1,5 +1,5 @@
 -- The list of the subsets of a mask: its first entry, and what stands in it.
-use Rattle.std.proofs.Common.{◌≡◌, ℕ, zero, suc, ◌-◌, ◌<◌, ◌≤◌, Bool, true, false, cond, ◌⊎◌, List, [], ◌∷◌, length, get_or, filter, Option, sym, refl, ap, ◌∙◌, subst, Decides, inl, inr, arith}
+use Rattle.std.proofs.Common.{◌≡◌, ℕ, zero, suc, ◌-◌, ◌<◌, ◌≤◌, Bool, true, false, cond, ◌⊎◌, List, [], ◌∷◌, length, get_or, Contains, filter, Option, sym, refl, ap, ◌∙◌, subst, Decides, inl, inr, arith}
 use lib.Bits.{bit_and}
 use Rattle.std.specs.Bool.{MatchBool}
 use denote.Param.Members.{Mut}
@@ -9,13 +9,13 @@ use Rattle.std.specs.List.{AllWithin, FoldsTo, HoldsAt}
 use Rattle.std.specs.Option.{MatchOption}
 use Rattle.std.proofs.lemmas.Iterator.{cases_from_any}
 use Rattle.std.proofs.lemmas.Iterator.Consumers.{YieldsList-from_first}
+use Rattle.std.proofs.lemmas.List.Elements.{Contains-get_or, at_from_Contains}
 use Rattle.std.proofs.lemmas.Bool.{cases_eq, cases_Bool, eq-eqb, eqb-true, false≢true}
-use Rattle.domain.specs.Coverage.{Listed}
-use Rattle.domain.specs.Coverage.Listed.{here, there}
+use Rattle.domain.proofs.Lists.{Listed, contains, listed}
+use Rattle.domain.proofs.Lists.Listed.{here, there}
 use Rattle.domain.specs.Masks.{Within, contained}
 use Rattle.domain.specs.Subsets.{down_from, subsets_from}
 use Rattle.domain.proofs.Bits.{and_within, within_and, within_le, in_first}
-use Rattle.domain.proofs.Loading.{at_listed, listed_at}
 use Rattle.domain.proofs.Walk.{next_subset}
 
 -- the masks in between that fail the test are passed over
@@ -83,12 +83,12 @@ subset_listed {g} u (suc k) some h w = go (cases_eq g (suc k)) (contained (suc k
 pub any_listed :
     {Yes No : ℕ → Type 0} (xs : List ℕ) (r : Bool)
     → MatchBool r ((k : ℕ) × (k < length xs) × HoldsAt Yes xs k) (AllWithin No xs 0 (length xs))
-    → (r ≡ true → (g : ℕ) × Listed g xs × Yes g) × (r ≡ false → (g : ℕ) → Listed g xs → No g)
+    → (r ≡ true → (g : ℕ) × Contains xs g × Yes g) × (r ≡ false → (g : ℕ) → Contains xs g → No g)
 any_listed {Yes} {No} xs true m =
-    (λ e. (get_or xs m.0 0, at_listed xs m.0 m.1, m.2 0), λ e. absurd (false≢true (sym e)))
+    (λ e. (get_or xs m.0 0, Contains-get_or xs m.0 0 m.1, m.2 0), λ e. absurd (false≢true (sym e)))
 any_listed {Yes} {No} xs false m = (
   λ e. absurd (false≢true e),
-  λ e g l. let i = listed_at xs l in subst No i.2 (m i.0 0 (omega arith) i.1),
+  λ e g l. let i = at_from_Contains xs g l in subst No (i.2 0) (m i.0 0 (omega arith) i.1),
 )
 
 -- some subset of u that is not empty has Q
@@ -105,13 +105,13 @@ pub decides_some :
     → Decides r (SomeSubset Q u)
 decides_some {Q} u r m =
     let a = any_listed {Yes = Q} {No = λ s. Q s → ⊥} (subsets_from u u) r m in (
-      λ e. let f = a.0 e in let s = listed_subset u u f.1 in record { part = f.0; some = s.0; inside = s.1; holds = f.2 },
+      λ e. let f = a.0 e in let s = listed_subset u u (listed (subsets_from u u) f.0 f.1) in record { part = f.0; some = s.0; inside = s.1; holds = f.2 },
       λ f. go r a.1 f,
     )
   where
-    go : (r : Bool) → (r ≡ false → (g : ℕ) → Listed g (subsets_from u u) → Q g → ⊥) → SomeSubset Q u → r ≡ true
+    go : (r : Bool) → (r ≡ false → (g : ℕ) → Contains (subsets_from u u) g → Q g → ⊥) → SomeSubset Q u → r ≡ true
     go true none f = refl
-    go false none f = absurd (none refl f.part (subset_listed u u f.some (within_le f.inside) f.inside) f.holds)
+    go false none f = absurd (none refl f.part (contains (subset_listed u u f.some (within_le f.inside) f.inside)) f.holds)
 
 -- what `any` answers over the subsets of u, by a test that decides Q
 pub any_decides :

@@ -4,8 +4,8 @@ use lib.Bits.{bit_and, bit_or, bit_xor, or_zero_r}
 use Rattle.std.specs.List.{fold}
 use Rattle.std.proofs.lemmas.Bool.{and_parts, false≢true}
 use Rattle.std.proofs.lemmas.Bool.Decides.{Decides-like}
-use Rattle.domain.specs.Coverage.{Listed}
-use Rattle.domain.specs.Coverage.Listed.{here, there}
+use Rattle.domain.proofs.Lists.{Listed}
+use Rattle.domain.proofs.Lists.Listed.{here, there}
 use Rattle.domain.specs.Masks.{In, Within}
 use Rattle.domain.specs.Filling.{Hull, Fills, Filled, FilledBoth}
 use Rattle.domain.specs.Groups.{Closure, Shared}

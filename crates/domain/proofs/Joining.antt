@@ -1,10 +1,10 @@
 -- A join from its parts, and that it keeps the rules.
-use Rattle.std.proofs.Common.{◌≡◌, ℕ, ◌-◌, ◌/◌, ◌^◌, ◌<◌, ◌≤◌, true, false, not, ◌||◌, ltb, ◌⊎◌, List, [], ◌∷◌, length, None, sym, refl, ◌∙◌, inl, inr, arith}
+use Rattle.std.proofs.Common.{◌≡◌, ℕ, ◌-◌, ◌/◌, ◌^◌, ◌<◌, ◌≤◌, true, false, not, ◌||◌, ltb, ◌⊎◌, List, [], ◌∷◌, length, Contains, None, sym, refl, ◌∙◌, inl, inr, arith}
 use lib.Bits.{bit_and, bit_or, or_zero_r}
 use Rattle.std.specs.List.{fold}
 use Rattle.std.proofs.lemmas.Bool.{and_parts, or_parts, not-true, not-false, ltb-true, ltb-false, leb-false, eqb-true}
-use Rattle.domain.specs.Coverage.{Listed}
-use Rattle.domain.specs.Coverage.Listed.{here, there}
+use Rattle.domain.proofs.Lists.{Listed, contains, listed}
+use Rattle.domain.proofs.Lists.Listed.{here, there}
 use Rattle.domain.specs.Groups.{IsGround}
 use Rattle.domain.specs.Joining.{Joined, LawfulListing}
 use Rattle.domain.specs.Masks.{In, contained, without}
@@ -23,10 +23,10 @@ use Rattle.domain.proofs.Tables.{room_for}
 -- the new table has the groups of the old one and those of the list
 pub joined_of :
     (n : ℕ) (old new : List ℕ) (m : Marks) (other : Listing (List ℕ)) → n ≤ MOST_POSITIONS → bytes_for n ≤ length old
-    → ((g : ℕ) → Listed g other.groups → (0 < g) × (g < 2 ^ n))
-    → ((g : ℕ) → g / 8 < length old → Listed g other.groups → holds_bit new g ≡ true)
+    → ((g : ℕ) → Contains other.groups g → (0 < g) × (g < 2 ^ n))
+    → ((g : ℕ) → g / 8 < length old → Contains other.groups g → holds_bit new g ≡ true)
     → ((g : ℕ) → holds_bit old g ≡ true → holds_bit new g ≡ true)
-    → ((g : ℕ) → holds_bit new g ≡ true → (holds_bit old g ≡ true) ⊎ Listed g other.groups)
+    → ((g : ℕ) → holds_bit new g ≡ true → (holds_bit old g ≡ true) ⊎ Contains other.groups g)
     → Joined (told_of n old m) other (told_of n new (record { free = bit_and m.free other.marks.free; linear = bit_and m.linear other.marks.linear }))
 joined_of n old new m other few room range put grown only =
     record {
@@ -39,12 +39,12 @@ joined_of n old new m other few room range put grown only =
       linear_only = λ p i. (in_first m.linear other.marks.linear i, in_second m.linear other.marks.linear i);
     }
   where
-    made : (g : ℕ) → TableGroup n old g ⊎ Listed g other.groups → TableGroup n new g
+    made : (g : ℕ) → TableGroup n old g ⊎ Contains other.groups g → TableGroup n new g
     made g (inl k) = let r = of_group n old g k in group_of n new g r.0 r.1 (grown g r.2)
     made g (inr k) =
         let r = range g k in group_of n new g r.0 r.1 (put g (room_for n g (length old) few r.1 room) k)
 
-    was : (g : ℕ) → 0 < g → g < 2 ^ n → (holds_bit old g ≡ true) ⊎ Listed g other.groups → TableGroup n old g ⊎ Listed g other.groups
+    was : (g : ℕ) → 0 < g → g < 2 ^ n → (holds_bit old g ≡ true) ⊎ Contains other.groups g → TableGroup n old g ⊎ Contains other.groups g
     was g some below (inl e) = inl (group_of n old g some below e)
     was g some below (inr k) = inr k
 
@@ -122,14 +122,14 @@ listing_lawful n other ascends ill =
     let k = and_parts (contained f l) _ (not-false _ m.1) in
     let e = and_parts (contained (without (2 ^ n - 1) (held_by hs)) l) _ k.1 in
     record {
-      in_range = ascend_range n 0 hs ascends;
+      in_range = λ g c. ascend_range n 0 hs ascends g (listed hs g c);
       marks = record {
         linear_in_range = leb-false (2 ^ n) l r.1;
         free_is_linear = within_contained f l k.0;
         ground_is_linear = λ p g. within_contained (without (2 ^ n - 1) (held_by hs)) l e.0 p
-            (in_lacking (in_all p n g.position) (λ q. let w = held_listed hs p q in g.none w.0 w.1 w.2));
+            (in_lacking (in_all p n g.position) (λ q. let w = held_listed hs p q in g.none w.0 (contains w.1) w.2));
         free_is_not_ground = λ p i g.
-            let w = held_listed hs p (within_contained f (held_by hs) e.1 p i) in g.none w.0 w.1 w.2;
+            let w = held_listed hs p (within_contained f (held_by hs) e.1 p i) in g.none w.0 (contains w.1) w.2;
       };
     }
 

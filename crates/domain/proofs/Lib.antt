@@ -1,4 +1,5 @@
 pub mod Bits
+pub mod Lists
 pub mod Tables
 pub mod Laws
 pub mod Deciding

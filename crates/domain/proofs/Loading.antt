@@ -1,31 +1,18 @@
 -- The loop that puts the groups of a list into a table.
-use Rattle.std.proofs.Common.{◌≡◌, ℕ, zero, suc, ◌+◌, ◌/◌, ◌^◌, ◌<◌, ◌≤◌, true, ◌≢◌, ◌⊎◌, List, [], ◌∷◌, length, get_or, Decides, sym, refl, ◌∙◌, subst, inl, inr, arith}
+use Rattle.std.proofs.Common.{◌≡◌, ℕ, ◌+◌, ◌/◌, ◌^◌, ◌<◌, ◌≤◌, true, ◌≢◌, ◌⊎◌, List, length, get_or, Contains, Decides, sym, ◌∙◌, subst, inl, inr, arith}
 use Rattle.std.proofs.lemmas.Bool.{cases_eq, cases_lt}
-use Rattle.domain.specs.Coverage.{Listed}
-use Rattle.domain.specs.Coverage.Listed.{here, there}
+use Rattle.std.proofs.lemmas.List.Elements.{Contains-get_or, at_from_Contains}
 use Rattle.domain.specs.Requests.{bytes_for}
 use Rattle.domain.specs.Tables.{holds_bit, TableGroup}
 use Rattle.domain.specs.declared.limits.TheConstants.{MOST_POSITIONS}
 use Rattle.domain.proofs.Laws.{group_of, of_group}
 use Rattle.domain.proofs.Tables.{room_for}
 
--- the places of a list
-
-pub at_listed : (gs : List ℕ) (i : ℕ) → i < length gs → Listed (get_or gs i 0) gs
-at_listed [] i h = absurd (omega arith)
-at_listed (g ∷ gs) zero h = here
-at_listed (g ∷ gs) (suc i) h = there (at_listed gs i (omega arith))
-
-pub listed_at : {g : ℕ} (gs : List ℕ) → Listed g gs → (i : ℕ) × (i < length gs) × (get_or gs i 0 ≡ g)
-listed_at [] l = elim l [ ]
-listed_at (g ∷ gs) here = (0, omega arith, refl)
-listed_at (h ∷ gs) (there l) = let r = listed_at gs l in (suc r.0, omega (arith, r.1), r.2)
-
 -- the table t has the groups of s, and the first i of the list
 pub record Loaded (gs s t : List ℕ) (i : ℕ) : Type 0 where
   pub put : (j : ℕ) → j < i → get_or gs j 0 / 8 < length s → holds_bit t (get_or gs j 0) ≡ true
   pub grown : (g : ℕ) → holds_bit s g ≡ true → holds_bit t g ≡ true
-  pub only : (g : ℕ) → holds_bit t g ≡ true → (holds_bit s g ≡ true) ⊎ Listed g gs
+  pub only : (g : ℕ) → holds_bit t g ≡ true → (holds_bit s g ≡ true) ⊎ Contains gs g
 
 module _ (gs s t u : List ℕ) (i : ℕ) (long : length t ≡ length s) (inside : i < length gs) (before : Loaded gs s t i)
     (at : get_or gs i 0 / 8 < length t → holds_bit u (get_or gs i 0) ≡ true)
@@ -51,21 +38,21 @@ module _ (gs s t u : List ℕ) (i : ℕ) (long : length t ≡ length s) (inside 
       put j h k (inl e) = rw e (at (rw (long, ← e) k))
       put j h k (inr ne) = grows (get_or gs j 0) (before.put j (omega (arith, ne)) k)
 
-      only : (g : ℕ) → holds_bit u g ≡ true → (g ≡ get_or gs i 0) ⊎ (g ≡ get_or gs i 0 → ⊥) → (holds_bit s g ≡ true) ⊎ Listed g gs
-      only g e (inl q) = inr (rw q (at_listed gs i inside))
+      only : (g : ℕ) → holds_bit u g ≡ true → (g ≡ get_or gs i 0) ⊎ (g ≡ get_or gs i 0 → ⊥) → (holds_bit s g ≡ true) ⊎ Contains gs g
+      only g e (inl q) = inr (rw q (Contains-get_or gs i 0 inside))
       only g e (inr ne) = before.only g (sym (others g ne) ∙ e)
 
-pub loaded_put : (gs s t : List ℕ) (i : ℕ) → length gs ≤ i → Loaded gs s t i → (g : ℕ) → g / 8 < length s → Listed g gs → holds_bit t g ≡ true
+pub loaded_put : (gs s t : List ℕ) (i : ℕ) → length gs ≤ i → Loaded gs s t i → (g : ℕ) → g / 8 < length s → Contains gs g → holds_bit t g ≡ true
 loaded_put gs s t i all loaded g h l =
-    let r = listed_at gs l in
-    subst (λ k. holds_bit t k ≡ true) r.2 (loaded.put r.0 (omega (arith, r.1)) (rw r.2 h))
+    let r = at_from_Contains gs g l in
+    subst (λ k. holds_bit t k ≡ true) (r.2 0) (loaded.put r.0 (omega (arith, r.1)) (rw (r.2 0) h))
 
 -- a table loaded with masks in range tells the groups of the list
 pub loaded_told :
     (n : ℕ) (t gs : List ℕ) → n ≤ MOST_POSITIONS → bytes_for n ≤ length t
-    → ((g : ℕ) → g / 8 < length t → Decides (holds_bit t g) (Listed g gs))
-    → ((g : ℕ) → Listed g gs → (0 < g) × (g < 2 ^ n))
-    → (g : ℕ) → (TableGroup n t g → Listed g gs) × (Listed g gs → TableGroup n t g)
+    → ((g : ℕ) → g / 8 < length t → Decides (holds_bit t g) (Contains gs g))
+    → ((g : ℕ) → Contains gs g → (0 < g) × (g < 2 ^ n))
+    → (g : ℕ) → (TableGroup n t g → Contains gs g) × (Contains gs g → TableGroup n t g)
 loaded_told n t gs few room bits range g = (
   λ k.
       let r = of_group n t g k in

@@ -1,6 +1,6 @@
 -- Which pairs of positions a set of groups covers, and where. A window is any set of positions.
-use Rattle.std.specs.Prelude.{◌≡◌, ℕ, ◌≤◌, ◌≢◌, List, ◌∷◌, length}
-use Rattle.domain.specs.Lists.{Ascending}
+use Rattle.std.specs.Prelude.{◌≡◌, ℕ, ◌≤◌, ◌≢◌, List, length, Contains}
+use Rattle.std.specs.List.Sorted.{IsStrictlyIncreasing}
 use Rattle.domain.specs.Masks.{In, Within}
 use Rattle.domain.specs.Told.{Told, Group}
 
@@ -33,19 +33,14 @@ pub record Core (G : ℕ → Type 0) (g : ℕ) : Type 0 where
   pub right : In q g
   pub uncovered : (h : ℕ) → G h → Within h g → h ≢ g → In p h → In q h → ⊥
 
--- g stands in a list
-pub data Listed (g : ℕ) : List ℕ → Type 0 where
-  here : {gs : List ℕ} → Listed g (g ∷ gs)
-  there : {h : ℕ} {gs : List ℕ} → Listed g gs → Listed g (h ∷ gs)
-
 -- the core has at most k groups: some list of no more than k entries holds each of them
 pub record CoreFits (G : ℕ → Type 0) (k : ℕ) : Type 0 where
   pub groups : List ℕ
   pub short : length groups ≤ k
-  pub holds : (g : ℕ) → Core G g → Listed g groups
+  pub holds : (g : ℕ) → Core G g → Contains groups g
 
 -- gs is the core of G: all its core groups and no others, ascending
 pub record CoreList (G : ℕ → Type 0) (gs : List ℕ) : Type 0 where
-  pub only : (g : ℕ) → Listed g gs → Core G g
-  pub all : (g : ℕ) → Core G g → Listed g gs
-  pub ascending : Ascending gs
+  pub only : (g : ℕ) → Contains gs g → Core G g
+  pub all : (g : ℕ) → Core G g → Contains gs g
+  pub ascending : IsStrictlyIncreasing gs

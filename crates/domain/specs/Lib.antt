@@ -7,7 +7,6 @@ pub mod Binding
 pub mod Joining
 pub mod Forgetting
 pub mod Changes
-pub mod Lists
 pub mod Coverage
 pub mod Tables
 pub mod Refusals

@@ -1,11 +1,11 @@
 -- The changes of a list keeper: from the list to a table, by the rule, and to the core of what the rule gives.
-use Rattle.std.proofs.Common.{◌≡◌, ℕ, ◌/◌, ◌^◌, ◌<◌, ◌≤◌, Bool, not, eqb, List, ◌++◌, false, is_some, length, take, Some, None, Ok, Err, Decides, Option, Result, sym, refl, ap, ◌∙◌, subst, arith}
+use Rattle.std.proofs.Common.{◌≡◌, ℕ, ◌/◌, ◌^◌, ◌<◌, ◌≤◌, Bool, not, eqb, List, ◌++◌, false, is_some, length, take, Contains, Some, None, Ok, Err, Decides, Option, Result, sym, refl, ap, ◌∙◌, subst, arith}
 use Rattle.std.proofs.lemmas.Bool.{ne_eqb, false≢true}
 use Rattle.coverage.proofs.Cover.{same_turned, same_trans, same_groups}
 use Rattle.coverage.proofs.CoreLeast.{core_same, dec_group}
 use Rattle.coverage.proofs.ChangeLaws.{one_told}
 use Rattle.domain.specs.Changes.{Makes, change_tests}
-use Rattle.domain.specs.Coverage.{Alike, Core, Listed}
+use Rattle.domain.specs.Coverage.{Alike, Core}
 use Rattle.domain.specs.Masks.{In}
 use Rattle.domain.specs.Opening.{New}
 use Rattle.domain.specs.Refusals.{first_of, pick}
@@ -21,7 +21,7 @@ use Rattle.domain.proofs.Laws.{group_of, of_group}
 use Rattle.keeper.specs.Calls.{Changes, ChangesBy, Exactly, Opens}
 use Rattle.keeper.specs.declared.fault.KeeperFault.{KeeperFault}
 use Rattle.list_keeper.proofs.Keeping.{own_range}
-use Rattle.list_keeper.proofs.Listing.{test_listed, listed_test}
+use Rattle.list_keeper.proofs.Listing.{group_entry}
 use Rattle.list_keeper.specs.Keeping.{Kept, TellsCore, Stores}
 use Rattle.list_keeper.specs.Tells.{tells, told_by}
 use Rattle.list_keeper.specs.declared.head.Head.{Head}
@@ -29,20 +29,17 @@ use Rattle.list_keeper.specs.declared.head.Head.{Head}
 -- ---- the list as a table
 
 module _ (head : Head) (list table : List ℕ) (kept : Kept head list) (room : bytes_for head.outline.positions ≤ length table)
-    (holds : (g : ℕ) → g / 8 < length table → Decides (holds_bit table g) (Listed g (take head.count list))) where
+    (holds : (g : ℕ) → g / 8 < length table → Decides (holds_bit table g) (Contains (take head.count list) g)) where
   in_list : (g : ℕ) → Group (told_with head.outline table) g → Group (tells head list) g
   in_list g t =
       let r = of_group head.outline.positions table g t in
-      record {
-        told = listed_test (take head.count list)
-            ((holds g (room_for head.outline.positions g (length table) kept.few r.1 room)).0 r.2);
-      }
+      (group_entry head list g).1 ((holds g (room_for head.outline.positions g (length table) kept.few r.1 room)).0 r.2)
 
   in_table : (g : ℕ) → Group (tells head list) g → Group (told_with head.outline table) g
   in_table g t =
       let r = own_range head list kept g t in
       group_of head.outline.positions table g r.0 r.1
-      ((holds g (room_for head.outline.positions g (length table) kept.few r.1 room)).1 (test_listed (take head.count list) g t.told))
+      ((holds g (room_for head.outline.positions g (length table) kept.few r.1 room)).1 ((group_entry head list g).0 t))
 
   pub loaded_told : told_with head.outline table ≡ tells head list
   loaded_told =

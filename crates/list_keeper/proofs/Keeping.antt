@@ -1,5 +1,5 @@
 -- A list that holds the core of a description.
-use Rattle.std.proofs.Common.{◌≡◌, ℕ, ◌^◌, ◌<◌, ◌≤◌, true, List, length, get_or, take, drop, None, Ok, Err, Option, Result, sym, refl, ap, ◌∙◌, subst, arith, length-take-le, take_at}
+use Rattle.std.proofs.Common.{◌≡◌, ℕ, ◌^◌, ◌<◌, ◌≤◌, true, List, length, get_or, take, drop, Contains, None, Ok, Err, Option, Result, sym, refl, ap, ◌∙◌, subst, arith, length-take-le, take_at}
 use Rattle.std.specs.Option.{ForSome, ForNone}
 use Rattle.std.specs.Prelude.{MatchResult, IsErrAnd}
 use Rattle.coverage.specs.Listing.{FillsCore, WritesCore, WritesOr}
@@ -8,7 +8,7 @@ use Rattle.coverage.proofs.CoreLeast.{core_same, core_kept, dec_group}
 use Rattle.coverage.proofs.ExistsCore.{dec_core}
 use Rattle.coverage.proofs.ListedCores.{fills_inside, fills_given}
 use Rattle.coverage.proofs.Searching.{dec_stable}
-use Rattle.domain.specs.Coverage.{Core, CoreList, CoreFits, Listed}
+use Rattle.domain.specs.Coverage.{Core, CoreList, CoreFits}
 use Rattle.domain.specs.Refusals.{first_of}
 use Rattle.domain.specs.Requests.{ascend, open_tests}
 use Rattle.domain.specs.Tables.{told_with}
@@ -19,9 +19,10 @@ use Rattle.domain.specs.declared.refusal.Refusal.{Refusal}
 use Rattle.domain.specs.declared.refusal.Refusal.TheVariants.{Room}
 use Rattle.domain.proofs.Joining.{ascend_range}
 use Rattle.domain.proofs.Laws.{of_group}
+use Rattle.domain.proofs.Lists.{contains, listed, above_increasing, core_above}
 use Rattle.domain.proofs.Mapped.{was_ok}
 use Rattle.rules.proofs.Lending.{counted_told}
-use Rattle.list_keeper.proofs.Listing.{test_listed, listed_test, ascend_above, above_ascend}
+use Rattle.list_keeper.proofs.Listing.{group_entry, ascend_above, above_ascend}
 use Rattle.list_keeper.specs.Keeping.{Kept, Stores, LaysOut}
 use Rattle.list_keeper.specs.ListKeepers.{KeepsList}
 use Rattle.list_keeper.specs.Tells.{tells}
@@ -48,14 +49,14 @@ module _ (head : Head) (list : List ℕ) (kept : Kept head list) where
       record {
         only =
             λ g l.
-            dec_stable (dec_core (dec_group (tells head list)) g) (kept.core g (record { told = listed_test (take head.count list) l }));
-        all = λ g c. test_listed (take head.count list) g c.told.told;
-        ascending = ascend_above head.outline.positions 0 (take head.count list) kept.rising;
+            dec_stable (dec_core (dec_group (tells head list)) g) (kept.core g ((group_entry head list g).1 l));
+        all = λ g c. (group_entry head list g).0 c.told;
+        ascending = above_increasing (ascend_above head.outline.positions 0 (take head.count list) kept.rising);
       }
 
   pub own_range : (g : ℕ) → Group (tells head list) g → (0 < g) × (g < 2 ^ head.outline.positions)
   own_range g t =
-      ascend_range head.outline.positions 0 (take head.count list) kept.rising g (test_listed (take head.count list) g t.told)
+      ascend_range head.outline.positions 0 (take head.count list) kept.rising g (listed (take head.count list) g ((group_entry head list g).0 t))
 
   -- so the list lays it out
   pub laid_out : LaysOut (tells head list) list
@@ -89,11 +90,11 @@ module _ (outline : Outline) (table list list' list'' : List ℕ) (count : ℕ) 
       front ∙ ap (λ (l : List ℕ). take count l) fills.at_start ∙ take_at fills.groups (drop count list) count (sym fills.counted)
 
   is_core_lem : (g : ℕ) → Group (tells new_head list'') g → Core (Group (told_with outline table)) g
-  is_core_lem g t = fills.core.only g (subst (λ (l : List ℕ). Listed g l) groups_are (test_listed (take count list'') g t.told))
+  is_core_lem g t = fills.core.only g (subst (λ (l : List ℕ). Contains l g) groups_are ((group_entry new_head list'' g).0 t))
 
   of_core : (g : ℕ) → Core (Group (told_with outline table)) g → Group (tells new_head list'') g
   of_core g c =
-      record { told = listed_test (take count list'') (subst (λ (l : List ℕ). Listed g l) (sym groups_are) (fills.core.all g c)) }
+      (group_entry new_head list'' g).1 (subst (λ (l : List ℕ). Contains l g) (sym groups_are) (fills.core.all g c))
 
   -- the core of the core is the core
   own : (g : ℕ) → Group (tells new_head list'') g → (Core (Group (tells new_head list'')) g → ⊥) → ⊥
@@ -108,8 +109,8 @@ module _ (outline : Outline) (table list list' list'' : List ℕ) (count : ℕ) 
         inside = (let h = fills_inside list list' count fills same in omega arith);
         rising =
             subst (λ (l : List ℕ). ascend outline.positions 0 l ≡ true) (sym groups_are)
-            (above_ascend outline.positions 0 fills.groups fills.core.ascending
-            (λ g l. (of_group outline.positions table g (fills.core.only g l).told).1));
+            (above_ascend outline.positions 0 fills.groups (core_above fills.core)
+            (λ g l. (of_group outline.positions table g (fills.core.only g (contains l)).told).1));
         core = own;
         cleared = zero';
       }

@@ -1,35 +1,18 @@
--- The entries of a list, by its test and by its places.
-use Rattle.std.proofs.Common.{◌≡◌, ℕ, ◌^◌, ◌<◌, ◌≤◌, true, not, eqb, ltb, List, [], ◌∷◌, length, get_or, refl, subst, inl, inr, arith}
-use Rattle.std.proofs.lemmas.Bool.{eq-eqb, eqb-true, false≢true, or_cases, or_left, or_right, and_parts, ltb-true, lt-ltb, lt-leb, and_from, not_from_false}
-use Rattle.domain.specs.Coverage.{Listed, here, there}
-use Rattle.domain.specs.Lists.{Above, none, next}
+-- The entries of a list: the groups that a head tells of it, and the test that they ascend.
+use Rattle.std.proofs.Common.{◌≡◌, ℕ, ◌^◌, ◌<◌, true, not, ltb, ◌↔◌, List, [], ◌∷◌, take, Contains, refl}
+use Rattle.std.specs.Cmp.{unsigned_Decides}
+use Rattle.std.proofs.lemmas.Bool.{and_parts, ltb-true, lt-ltb, lt-leb, and_from, not_from_false}
+use Rattle.std.proofs.lemmas.Map.Made.{is_member-Decides}
 use Rattle.domain.specs.Requests.{ascend, reaches}
-use Rattle.domain.proofs.Loading.{listed_at}
-use Rattle.domain.specs.Masks.{In}
-use Rattle.list_keeper.specs.Entries.{is_listed, SomeHolds}
+use Rattle.domain.specs.Told.{Group}
+use Rattle.domain.proofs.Lists.{Listed, here, there, Above, none, next}
+use Rattle.list_keeper.specs.Tells.{tells}
+use Rattle.list_keeper.specs.declared.head.Head.{Head}
 
--- the test decides
-pub test_listed : (gs : List ℕ) (g : ℕ) → is_listed gs g ≡ true → Listed g gs
-unfolding is_listed
-test_listed [] g e = absurd (false≢true e)
-test_listed (h ∷ gs) g e =
-    elim (or_cases (eqb g h) (is_listed gs g) e) [
-      | inl k ↦ subst (λ (x : ℕ). Listed g (x ∷ gs)) (eqb-true g h k) here
-      | inr k ↦ there (test_listed gs g k)
-    ]
-
-pub listed_test : {g : ℕ} (gs : List ℕ) → Listed g gs → is_listed gs g ≡ true
-unfolding is_listed
-listed_test [] l = elim l [ ]
-listed_test {g} (h ∷ gs) here = or_left (eqb g g) (is_listed gs g) (eq-eqb g g refl)
-listed_test {g} (h ∷ gs) (there l) = or_right (eqb g h) (is_listed gs g) (listed_test gs l)
-
--- where no place has such an entry there is none
-pub none_holds : (gs : List ℕ) (p q k : ℕ) → length gs ≤ k
-    → ((i : ℕ) → i < k → In p (get_or gs i 0) → In q (get_or gs i 0) → ⊥) → SomeHolds gs p q → ⊥
-none_holds gs p q k all bare s =
-    let r = listed_at gs s.listed in
-    bare r.0 (omega (arith, r.1)) (rw r.2 s.left) (rw r.2 s.right)
+-- the groups that are told are the entries
+pub group_entry : (head : Head) (list : List ℕ) (g : ℕ) → Group (tells head list) g ↔ Contains (take head.count list) g
+group_entry head list g =
+    let d = is_member-Decides unsigned_Decides (take head.count list) g in (λ t. d.0 t.told, λ c. record { told = d.1 c })
 
 -- ascending lists, by their test
 

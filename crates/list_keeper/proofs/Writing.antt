@@ -1,8 +1,7 @@
 -- What a write-out of the core answers.
 use Rattle.std.proofs.Common.{◌≡◌, ℕ, ◌<◌, ◌≤◌, not, List, ◌++◌, length, take, drop, Some, Ok, Err, Option, sym, refl, ap, ◌∙◌, subst, inr, arith, length-take-le}
 use Rattle.std.proofs.lemmas.Bool.{ne_eqb}
-use Rattle.coverage.proofs.Counting.{fits_count}
-use Rattle.coverage.proofs.ExistsFit.{list_counted}
+use Rattle.coverage.proofs.Counting.{fits_count, list_counted}
 use Rattle.domain.specs.declared.refusal.Refusal.TheVariants.{Room}
 use Rattle.keeper.specs.Calls.{Writes, fault_of}
 use Rattle.keeper.specs.declared.fault.KeeperFault.{KeeperFault}

@@ -1,4 +1,3 @@
-pub mod Entries
 pub mod Tells
 pub mod Keeping
 pub mod ListKeepers

@@ -1,8 +1,8 @@
 -- What a list keeper tells, by what it holds.
-use Rattle.std.specs.Prelude.{ℕ, List, Some, None, Option, take}
+use Rattle.std.specs.Prelude.{ℕ, List, Some, None, Option, nat_eq, take}
+use Rattle.std.specs.Set.{is_member}
 use Rattle.domain.specs.Told.{Told}
 use Rattle.keeper.specs.Calls.{unopened}
-use Rattle.list_keeper.specs.Entries.{is_listed}
 use Rattle.list_keeper.specs.declared.head.Head.{Head}
 
 -- once it is opened
@@ -10,7 +10,7 @@ abbrev pub tells : Head → List ℕ → Told
 tells head list =
     record {
       n = head.outline.positions;
-      groups = is_listed (take head.count list);
+      groups = is_member nat_eq (take head.count list);
       marks = head.outline.marks;
     }
 

@@ -1,12 +1,12 @@
 //! The entries of a list of groups.
-ghost use Rattle.std.specs.Prelude.{◌≡◌, ℕ, ◌≤◌, ◌++◌, length, take, drop, ◌↔◌, IsTrue, slice_index};
-ghost use Rattle.list_keeper.specs.Entries.{SomeHolds};
+ghost use Rattle.std.specs.Prelude.{◌≡◌, ℕ, ◌≤◌, ◌++◌, length, take, drop, Contains, ◌↔◌, IsTrue, slice_index};
+ghost use Rattle.domain.specs.Groups.{Share};
 
 use domain::mask::has_both;
 
 // Does some entry hold both positions?
 pub(crate) fn some_holds(groups: &[u16], p: u8, q: u8) -> bool
-    ensures { IsTrue result ↔ SomeHolds groups.now p q }
+    ensures { IsTrue result ↔ Share (Contains groups.now) p q }
 {
     groups.iter().any(|g| has_both(*g, p, q))
 }

@@ -3,8 +3,6 @@ use Rattle.std.proofs.Common.{◌≡◌, ℕ, zero, suc, ◌+◌, ◌-◌, ◌^�
 use lib.Bits.{bit_and, bit_or}
 use Rattle.std.specs.List.{fold, range_with_len}
 use Rattle.std.proofs.lemmas.Bool.{and_parts, cases_eq, false≢true}
-use Rattle.domain.specs.Coverage.{Listed}
-use Rattle.domain.specs.Coverage.Listed.{here, there}
 use Rattle.domain.specs.Groups.{IsGround, Near}
 use Rattle.domain.specs.Masks.{In, Meets, Loses}
 use Rattle.domain.specs.Requests.{held_by}
@@ -15,6 +13,8 @@ use Rattle.domain.proofs.Deciding.{decides_meets}
 use Rattle.domain.proofs.Descending.{listed_filter, filter_listed}
 use Rattle.domain.proofs.Filling.{held_holds}
 use Rattle.domain.proofs.Joining.{fold_held, held_listed}
+use Rattle.domain.proofs.Lists.{Listed}
+use Rattle.domain.proofs.Lists.Listed.{here, there}
 use Rattle.domain.proofs.Laws.{group_of, of_group}
 
 listed_range : {g : ℕ} (a n : ℕ) → Listed g (range_with_len a n) → (a ≤ g) × (g < a + n)

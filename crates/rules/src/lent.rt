@@ -1,8 +1,7 @@
 //! The rules on a lent table, beside which the caller keeps the outline. The new table takes the place of the
 //! old one; where a call is refused, the table stays as it was.
-ghost use Rattle.std.specs.Prelude.{◌≡◌, ℕ, ◌/◌, ◌<◌, ◌↔◌, ◌++◌, length, Err, IsTrue};
+ghost use Rattle.std.specs.Prelude.{◌≡◌, ℕ, ◌/◌, ◌<◌, ◌↔◌, ◌++◌, length, Contains, Err, IsTrue};
 ghost use Rattle.domain.specs.Changes.{Makes, change_tests, lent_change};
-ghost use Rattle.domain.specs.Coverage.{Listed};
 ghost use Rattle.domain.specs.Opening.{New};
 ghost use Rattle.domain.specs.Refusals.{first_of};
 ghost use Rattle.domain.specs.Requests.{open_tests, room_tests, Gives};
@@ -43,7 +42,7 @@ pub fn open_table(table: &mut [u8], positions: u8) -> Result<Outline, Refusal>
 /// Clears the table and puts the groups of the list into it. A group past the table's end is left out.
 pub fn load_table(table: &mut [u8], groups: &[u16])
     ensures { (g : ℕ) → g / 8 < length table.old
-        → (IsTrue (holds_bit table.new g) ↔ Listed g groups.now) }
+        → (IsTrue (holds_bit table.new g) ↔ Contains groups.now g) }
 {
     table.fill(0);
     put_groups(table, groups);

@@ -5,6 +5,7 @@ use Rattle.agreement.proofs.Calls.{session_same}
 use Rattle.agreement.proofs.Unique.{one_reckoned}
 use Rattle.agreement.specs.Reckoning.{Opened, Reckoned}
 use Rattle.agreement.specs.Sessions.{Answer, Session}
+use Rattle.domain.proofs.Lists.{contains, listed}
 use Rattle.domain.proofs.Opening.{new_lawful}
 use Rattle.coverage.proofs.Places.{new_alike}
 use Rattle.domain.specs.Coverage.{CoreList}
@@ -31,7 +32,7 @@ pub record Reads (r : Row) : Type 0 where
 pub shown : (r : Row) → Reads r → Shows r (tell (written r))
 shown r c =
     record {
-      groups = λ g. (λ k. (lists_told (written r)).all k, λ l. (lists_told (written r)).only l);
+      groups = λ g. (λ k. contains ((lists_told (written r)).all k), λ c. (lists_told (written r)).only (listed r.groups g c));
       core = subst (λ gs. CoreList (Group (tell (written r))) gs) c.core (core_within r.n (lists_told (written r)) c.in_range);
       marks = refl;
     }

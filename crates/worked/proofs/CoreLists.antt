@@ -2,8 +2,8 @@
 use Rattle.std.proofs.Common.{◌≡◌, ℕ, ◌^◌, ◌<◌, true, ◌&&◌, ltb, ◌⊎◌, List, [], inl, inr, arith}
 use Rattle.std.proofs.lemmas.Bool.{ltb-true, lt-ltb, eqb-true, eq-eqb}
 use Rattle.domain.proofs.Bits.{in_pos, in_below, some_in, within_le}
-use Rattle.domain.specs.Coverage.{Core, CoreList, Listed}
-use Rattle.domain.specs.Lists.{none}
+use Rattle.domain.specs.Coverage.{Core, CoreList}
+use Rattle.domain.proofs.Lists.{Listed, none, listed_core}
 use Rattle.domain.specs.Masks.{In, Within, without}
 use Rattle.domain.specs.Requests.{held_by}
 use Rattle.worked.proofs.Verdicts.{marks_sharing}
@@ -83,11 +83,8 @@ module _ {P : ℕ → Type 0} {gs : List ℕ} (l : Lists P gs) where
     pub core_list : CoreList P (core_of n gs)
     unfolding core_of
     core_list =
-        record {
-          only = λ g k. elim (all.only k) [ inl c ↦ c | inr e ↦ elim e [ ] ];
-          all = λ g c. all.all (inl c);
-          ascending = merged_above (keep (is_core n gs) gs) (λ g k. in_pos (lists_core.only k).left) none;
-        }
+        listed_core (λ g k. elim (all.only k) [ inl c ↦ c | inr e ↦ elim e [ ] ]) (λ g c. all.all (inl c))
+        (merged_above (keep (is_core n gs) gs) (λ g k. in_pos (lists_core.only k).left) none)
       where
         empty : Lists (λ g. Listed g []) []
         empty = record { only = λ k. k; all = λ k. k }

@@ -1,8 +1,10 @@
 -- Lists of groups: tests, additions and kept entries. A list is read as the set of its entries.
-use Rattle.std.proofs.Common.{◌≡◌, ℕ, ◌<◌, Bool, true, false, ◌||◌, eqb, ltb, ◌⊎◌, List, [], ◌∷◌, refl, subst, inl, inr, arith}
-use Rattle.std.proofs.lemmas.Bool.{or_cases, or_left, or_right, eqb-true, eq-eqb, ltb-true, ltb-false, eqb-false, both_ways}
-use Rattle.domain.specs.Coverage.{Listed, here, there}
-use Rattle.domain.specs.Lists.{Above, none, next}
+use Rattle.std.proofs.Common.{◌≡◌, ℕ, ◌<◌, Bool, true, false, eqb, ltb, nat_eq, ◌⊎◌, List, [], ◌∷◌, Contains, refl, subst, inl, inr, arith}
+use Rattle.std.specs.Cmp.{unsigned_Decides}
+use Rattle.std.specs.Set.{is_member}
+use Rattle.std.proofs.lemmas.Map.Made.{is_member-Decides}
+use Rattle.std.proofs.lemmas.Bool.{eqb-true, ltb-true, ltb-false, eqb-false, both_ways}
+use Rattle.domain.proofs.Lists.{Listed, here, there, contains, listed, Above, none, next}
 
 -- ---- what a list holds
 
@@ -11,8 +13,8 @@ pub record Lists (P : ℕ → Type 0) (gs : List ℕ) : Type 0 where
   pub only : {g : ℕ} → Listed g gs → P g
   pub all : {g : ℕ} → P g → Listed g gs
 
-pub lists_self : (gs : List ℕ) → Lists (λ g. Listed g gs) gs
-lists_self gs = record { only = λ l. l; all = λ l. l }
+pub lists_self : (gs : List ℕ) → Lists (Contains gs) gs
+lists_self gs = record { only = λ l. contains l; all = λ {g} c. listed gs g c }
 
 pub lists_as : {P Q : ℕ → Type 0} {gs : List ℕ} → ((g : ℕ) → P g → Q g) → ((g : ℕ) → Q g → P g) → Lists P gs → Lists Q gs
 lists_as f b l = record { only = λ {g} k. f g (l.only k); all = λ {g} q. l.all (b g q) }
@@ -27,25 +29,10 @@ says_not {b} s e p = both_ways b e (s.no p)
 
 -- ---- membership
 
-unfoldable pub member : ℕ → List ℕ → Bool
-member g [] = false
-member g (h ∷ hs) = eqb g h || member g hs
-
-pub says_member : (g : ℕ) (gs : List ℕ) → Says (member g gs) (Listed g gs)
-unfolding member
-says_member g gs = record { yes = to gs; no = from }
-  where
-    to : (hs : List ℕ) → member g hs ≡ true → Listed g hs
-    to [] e = absurd (both_ways false refl e)
-    to (h ∷ hs) e =
-        elim (or_cases (eqb g h) (member g hs) e) [
-          | inl q ↦ subst (λ m. Listed g (m ∷ hs)) (eqb-true g h q) here
-          | inr m ↦ there (to hs m)
-        ]
-
-    from : {hs : List ℕ} → Listed g hs → member g hs ≡ true
-    from (here {gs = hs}) = or_left (eqb g g) (member g hs) (eq-eqb g g refl)
-    from (there {h = h} {gs = hs} l) = or_right (eqb g h) (member g hs) (from l)
+pub says_member : (g : ℕ) (gs : List ℕ) → Says (is_member nat_eq gs g) (Listed g gs)
+says_member g gs =
+    let d = is_member-Decides unsigned_Decides gs g in
+    record { yes = λ e. listed gs g (d.0 e); no = λ l. d.1 (contains l) }
 
 -- ---- one more entry, in its place, once
 

@@ -1,7 +1,8 @@
 -- Minimal groups beside core groups.
-use Rattle.std.proofs.Common.{◌≡◌, ℕ, ◌^◌, Bool, true, false, ltb, List, [], ◌∷◌, sym, refl, subst}
+use Rattle.std.proofs.Common.{◌≡◌, ℕ, ◌^◌, Bool, true, false, ltb, List, [], ◌∷◌, Contains, sym, refl, subst}
 use Rattle.std.proofs.lemmas.Bool.{both_ways}
-use Rattle.domain.specs.Coverage.{CoreList, Listed, here}
+use Rattle.domain.specs.Coverage.{CoreList}
+use Rattle.domain.proofs.Lists.{here, contains, listed}
 use Rattle.domain.specs.Requests.{held_by}
 use Rattle.worked.specs.Shortcuts.{Minimal, Beside, MinimalIsTooFew}
 use Rattle.worked.proofs.CoreLists.{Smaller, lists_inside, core_within}
@@ -31,11 +32,11 @@ lists_minimal {P} {gs} l =
 beside : (n : ℕ) {gs cs ms : List ℕ} → ltb (held_by gs) (2 ^ n) ≡ true → core_of n gs ≡ cs → minimal_of gs ≡ ms → Beside gs cs ms
 beside n {gs} h c m =
     record {
-      core = subst (CoreList (λ g. Listed g gs)) c (core_within n (lists_self gs) h);
-      minimal = λ g. (λ k. subst (Listed g) m (lists.all k), λ k. lists.only (subst (Listed g) (sym m) k));
+      core = subst (CoreList (Contains gs)) c (core_within n (lists_self gs) h);
+      minimal = λ g. (λ k. subst (λ hs. Contains hs g) m (contains (lists.all k)), λ k. lists.only (listed (minimal_of gs) g (subst (λ hs. Contains hs g) (sym m) k)));
     }
   where
-    lists : Lists (Minimal (λ g. Listed g gs)) (minimal_of gs)
+    lists : Lists (Minimal (Contains gs)) (minimal_of gs)
     lists = lists_minimal (lists_self gs)
 
 pub minimal_is_too_few : MinimalIsTooFew

@@ -4,7 +4,7 @@ use native.Mathlib.Decide.{ℕ_discrete}
 use lib.Bits.{bit_and, bit_or}
 use Rattle.std.proofs.lemmas.Bool.{or_cases, or_left, or_right, and_parts, and_from, eqb-true, eq-eqb, ltb-true, lt-ltb, both_ways, not-true, not_from_false, cases_Bool}
 use Rattle.domain.proofs.Bits.{none_in, in_left, in_right, in_either, in_both, in_first, in_second, in_lacking, lacking_in, in_all, all_in, within_and, and_within, meets_and, and_meets}
-use Rattle.domain.specs.Coverage.{Listed, here, there}
+use Rattle.domain.proofs.Lists.{Listed, here, there}
 use Rattle.domain.specs.Masks.{In, Within, Meets, contained, without}
 use Rattle.domain.specs.Requests.{held_by}
 use Rattle.worked.proofs.Gathering.{Lists, Says, says_not}

@@ -8,9 +8,8 @@ use Rattle.agreement.specs.Sessions as sessions
 use Rattle.agreement.specs.Sessions.{Call, Answer, accepted, Changed, CalledBy, Session}
 use Rattle.agreement.specs.declared.call.KeeperCall.{KeeperCall}
 use Rattle.agreement.specs.declared.call.KeeperCall.TheVariants.{Change, Ask, WriteOut}
-use Rattle.coverage.proofs.Counting.{count_fits, fits_count}
+use Rattle.coverage.proofs.Counting.{count_fits, fits_count, list_counted}
 use Rattle.coverage.proofs.Cover.{alike_refl}
-use Rattle.coverage.proofs.ExistsFit.{list_counted}
 use Rattle.domain.proofs.ChangeLaws.{change_allowed}
 use Rattle.domain.proofs.Refusing.{passed, bind_allowed}
 use Rattle.domain.specs.Changes.{Makes, change_tests}

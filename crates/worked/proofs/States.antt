@@ -1,5 +1,6 @@
 -- Descriptions with their groups in a list, and what each step makes of one, computed.
-use Rattle.std.proofs.Common.{ℕ, zero, suc, ◌-◌, ◌^◌, Bool, true, false, not, ◌&&◌, ◌||◌, eqb, ltb, List, [], ◌∷◌}
+use Rattle.std.proofs.Common.{ℕ, zero, suc, ◌-◌, ◌^◌, Bool, true, false, not, ◌&&◌, ◌||◌, eqb, ltb, nat_eq, List, [], ◌∷◌}
+use Rattle.std.specs.Set.{is_member}
 use lib.Bits.{bit_and, bit_or}
 use Rattle.domain.specs.Masks.{contained, without}
 use Rattle.domain.specs.Requests.{held_by}
@@ -11,7 +12,7 @@ use Rattle.domain.specs.declared.change.Change.TheVariants.{Bind, Join, Forget}
 use Rattle.domain.specs.declared.listing.Listing.{Listing}
 use Rattle.domain.specs.declared.marks.Marks.{Marks}
 use Rattle.domain.specs.declared.term.Term.{Term}
-use Rattle.worked.proofs.Gathering.{member, add, merged, keep}
+use Rattle.worked.proofs.Gathering.{add, merged, keep}
 use Rattle.worked.proofs.Positions.{has, touches, some, each, unless}
 use Rattle.worked.proofs.Unions.{pairs, closed, extended}
 
@@ -21,7 +22,7 @@ pub record State : Type 0 where
   pub marks : Marks
 
 abbrev pub tell : State → Told
-tell s = record { n = s.n; groups = λ g. member g s.groups; marks = s.marks }
+tell s = record { n = s.n; groups = is_member nat_eq s.groups; marks = s.marks }
 
 -- ---- new
 

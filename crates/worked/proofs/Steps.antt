@@ -1,10 +1,10 @@
 -- The computed new description, join and forget are those of the rules.
-use Rattle.std.proofs.Common.{◌≡◌, ℕ, zero, suc, ◌-◌, ◌^◌, ◌<◌, Bool, true, false, ltb, ◌⊎◌, List, [], ◌∷◌, sym, refl, subst, inl, inr, arith}
+use Rattle.std.proofs.Common.{◌≡◌, ℕ, zero, suc, ◌-◌, ◌^◌, ◌<◌, Bool, true, false, ltb, ◌⊎◌, List, [], ◌∷◌, Contains, sym, refl, subst, inl, inr, arith}
 use native.Mathlib.Decide.{ℕ_discrete}
 use lib.Bits.{bit_and, bit_or}
 use Rattle.std.proofs.lemmas.Bool.{ltb-true, lt-ltb}
 use Rattle.domain.proofs.Bits.{in_below, in_lacking, lacking_in, same_mask, in_all}
-use Rattle.domain.specs.Coverage.{Listed, here, there}
+use Rattle.domain.proofs.Lists.{Listed, here, there}
 use Rattle.domain.specs.Forgetting.{Stripped, Renewed, Forgotten}
 use Rattle.domain.specs.Joining.{Joined}
 use Rattle.domain.specs.Masks.{In, without}
@@ -102,7 +102,7 @@ join s other =
     told : Lists (Group (tell e)) e.groups
     told = lists_told e
 
-    groups : Lists (λ g. Group (tell s) g ⊎ Listed g other.groups) e.groups
+    groups : Lists (λ g. Group (tell s) g ⊎ Contains other.groups g) e.groups
     groups =
         lists_as (λ g k. elim k [ inl a ↦ inr a | inr b ↦ inl b ]) (λ g k. elim k [ inl a ↦ inr a | inr b ↦ inl b ])
         (lists_merged (lists_self other.groups) (lists_told s))

@@ -2,7 +2,7 @@
 use Rattle.std.proofs.Common.{◌≡◌, ℕ, ◌⊎◌, List, [], ◌∷◌, sym, ap, ◌∙◌, subst, inl, inr}
 use lib.Bits.{bit_or}
 use Rattle.domain.proofs.Bits.{or_comm, same_mask, union_within, within_left, within_right, within_self, within_trans}
-use Rattle.domain.specs.Coverage.{Listed, here, there}
+use Rattle.domain.proofs.Lists.{Listed, here, there}
 use Rattle.domain.specs.Groups.{Paired, Closure, one, more, Extended, alone, joined}
 use Rattle.domain.specs.Masks.{Within}
 use Rattle.worked.proofs.Gathering.{Lists, lists_as, lists_merged, add, add_only, add_new, add_old, merged}

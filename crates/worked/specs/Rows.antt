@@ -1,6 +1,6 @@
 -- A worked example: a keeper is opened and given some calls, and what then stands is written out.
-use Rattle.std.specs.Prelude.{◌≡◌, ℕ, ◌↔◌, List, [], ◌∷◌}
-use Rattle.domain.specs.Coverage.{Listed, CoreList}
+use Rattle.std.specs.Prelude.{◌≡◌, ℕ, ◌↔◌, List, [], ◌∷◌, Contains}
+use Rattle.domain.specs.Coverage.{CoreList}
 use Rattle.domain.specs.Opening.{New}
 use Rattle.domain.specs.Told.{Told, Group}
 use Rattle.domain.specs.declared.marks.Marks.{Marks}
@@ -20,7 +20,7 @@ pub record Row : Type 0 where
 
 -- d is the description that the row writes out
 pub record Shows (r : Row) (d : Told) : Type 0 where
-  pub groups : (g : ℕ) → Group d g ↔ Listed g r.groups
+  pub groups : (g : ℕ) → Group d g ↔ Contains r.groups g
   pub core : CoreList (Group d) r.core
   pub marks : d.marks ≡ r.marks
 

@@ -1,9 +1,9 @@
 -- Shortcuts of the rules that give something else, each with an example in which it does.
-use Rattle.std.specs.Prelude.{◌≡◌, ℕ, ◌^◌, ◌≢◌, ◌⊎◌, ◌↔◌, List, [], ◌∷◌, ◌++◌}
+use Rattle.std.specs.Prelude.{◌≡◌, ℕ, ◌^◌, ◌≢◌, ◌⊎◌, ◌↔◌, List, [], ◌∷◌, ◌++◌, Contains}
 use Rattle.agreement.specs.Reckoning.{Reckoned}
 use Rattle.agreement.specs.Sessions.{Call}
 use Rattle.domain.specs.Binding.{FreeTerm, LinearTerm, NewGroup, StaysFree, Bound}
-use Rattle.domain.specs.Coverage.{CoreList, Listed}
+use Rattle.domain.specs.Coverage.{CoreList}
 use Rattle.domain.specs.Masks.{In, Within}
 use Rattle.domain.specs.Groups.{Near, IsGround}
 use Rattle.domain.specs.Terms.{bare_term, constant_term, over_term}
@@ -23,8 +23,8 @@ pub record Minimal (G : ℕ → Type 0) (g : ℕ) : Type 0 where
 
 -- the core of a list of groups, and the groups of the list that are minimal
 pub record Beside (groups cores minimals : List ℕ) : Type 0 where
-  pub core : CoreList (λ g. Listed g groups) cores
-  pub minimal : (g : ℕ) → Minimal (λ h. Listed h groups) g ↔ Listed g minimals
+  pub core : CoreList (Contains groups) cores
+  pub minimal : (g : ℕ) → Minimal (Contains groups) g ↔ Contains minimals g
 
 -- 7 is a core group where nothing inside it covers positions 0 and 2, and none where 5 does
 pub record MinimalIsTooFew : Type 0 where

@@ -1,7 +1,6 @@
 //! Groups put into a table: those of the new description, of a list, and of a join.
-ghost use Rattle.std.specs.Prelude.{◌≡◌, ℕ, ◌/◌, ◌^◌, ◌<◌, ◌≤◌, true, ◌↔◌, ◌⊎◌, length, IsTrue};
+ghost use Rattle.std.specs.Prelude.{◌≡◌, ℕ, ◌/◌, ◌^◌, ◌<◌, ◌≤◌, true, ◌↔◌, ◌⊎◌, length, Contains, IsTrue};
 ghost use Rattle.domain.specs.Changes.{lent_listing};
-ghost use Rattle.domain.specs.Coverage.{Listed};
 ghost use Rattle.domain.specs.Joining.{Joined};
 ghost use Rattle.domain.specs.Opening.{Single};
 ghost use Rattle.domain.specs.Requests.{bytes_for};
@@ -18,11 +17,11 @@ use domain::table;
 
 // Puts the groups beside those that the table has. A group past the table's end is left out.
 pub(crate) fn put_groups(table: &mut [u8], groups: &[u16])
-    ensures put { (g : ℕ) → g / 8 < length table.old → Listed g groups.now
+    ensures put { (g : ℕ) → g / 8 < length table.old → Contains groups.now g
         → holds_bit table.new g ≡ true }
     ensures grown { (g : ℕ) → holds_bit table.old g ≡ true → holds_bit table.new g ≡ true }
     ensures only { (g : ℕ) → holds_bit table.new g ≡ true
-        → (holds_bit table.old g ≡ true) ⊎ Listed g groups.now }
+        → (holds_bit table.old g ≡ true) ⊎ Contains groups.now g }
 {
     for g in groups {
         table::put(table, *g, true);
@@ -44,7 +43,7 @@ pub(crate) fn put_singles(table: &mut [u8], positions: u8)
 impl Bench<'_> {
     // A join, worked in place.
     pub(crate) fn joined(&mut self, other: Listing<&[u16]>) -> Outline
-        requires { (g : ℕ) → Listed g other.groups.now
+        requires { (g : ℕ) → Contains other.groups.now g
             → (0 < g) × (g < 2 ^ self.old.outline.positions) }
         ensures gives { Joined (told_on self.old) (lent_listing other.entry)
             (told_with result self.new.table.now) }

@@ -1,22 +1,20 @@
-use Rattle.std.proofs.Common.{◌<◌, arith}
+use Rattle.std.proofs.Common.{arith}
 use Rattle.std.proofs.lemmas.Bool.Decides.{not_from_Decides}
-use Rattle.coverage.proofs.Counting.{core_range, core_below}
-use Rattle.coverage.proofs.ListedCores.{count_start, count_skip, count_one, count_end}
+use Rattle.coverage.proofs.Counting.{count_start, count_skip, count_one, count_end, core_below}
 use Rattle.domain.proofs.Refusing.{counted_few}
 use Rattle.coverage.proofs.groups.Groups.core_count.Goals as goal
 use Rattle.coverage.proofs.groups.Groups.core_count.Goals.{then-is_core, else-is_core}
 
 pub loop-g-init : goal.loop-g-init
 loop-g-init c =
-    (omega arith, count_start (λ k. omega (arith, (core_range c.args.self.now.positions c.args.self.now.table.now 0 k).0)))
+    (omega arith, count_start)
 
 pub loop-g-preserved : goal.loop-g-preserved
 loop-g-preserved c =
-    let low : 0 < c.loop-g.g = omega (arith, c.loop-g.invariant.0) in
     elim c.if-is_core.branch [
       | then-is_core w ↦ (
         omega (arith, w.count-is, c.loop-g.invariant.0),
-        rw w.count-is (count_one low (c.is_core.ensures.0 w.if-is_core.true) c.loop-g.invariant.1),
+        rw w.count-is (count_one (c.is_core.ensures.0 w.if-is_core.true) c.loop-g.invariant.1),
       )
       | else-is_core w ↦ (
         omega (arith, w.count-is, c.loop-g.invariant.0),
