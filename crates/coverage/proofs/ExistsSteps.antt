@@ -1,5 +1,5 @@
 -- A new description, a join and a forget each have a result.
-use Rattle.std.proofs.Common.{◌≡◌, ℕ, suc, ◌-◌, ◌^◌, ◌<◌, ◌⊎◌, Bool, true, false, eqb, List, Contains, sym, refl, ◌∙◌, subst, inl, inr, arith}
+use Rattle.std.proofs.Common.{◌≡◌, ℕ, suc, ◌-◌, ◌^◌, ◌<◌, ◌⊎◌, Bool, true, false, eqb, List, Contains, sym, refl, ◌∙◌, subst, arith}
 use native.Mathlib.Decide.{dec_lt, ℕ_discrete, map_dec}
 use lib.Bits.{bit_and, bit_or}
 use Rattle.std.specs.List.{list_any}

@@ -18,3 +18,4 @@ pub mod ExistsBind
 pub mod ExistsFit
 pub mod ListedCores
 pub mod ChangeLaws
+pub mod MostGroups

@@ -15,7 +15,7 @@ use Rattle.domain.specs.declared.limits.TheConstants.{MOST_POSITIONS, MOST_GROUP
 use Rattle.domain.specs.declared.refusal.Refusal.TheVariants.{Count, Room}
 use Rattle.domain.proofs.Refusing.{gave}
 use Rattle.keeper.specs.Calls.{Opens, Changes, ChangesBy, Exactly, opened, unopened}
-use Rattle.table_keeper.proofs.Fits.{fits_all}
+use Rattle.coverage.proofs.MostGroups.{most_fit}
 
 -- what is told of what is held
 abbrev pub told_by : Option Description → Told
@@ -36,7 +36,7 @@ opens_new n scratch o d none h room =
     go : (b : Bool) → Gives (pick b Count None) (Ok d) (λ e. New n (told e))
         → Changes (pick b Count (pick (ltb scratch (bytes_for n)) Room None)) MOST_GROUPS (New n) Exactly unopened (told d) (Ok tt)
     go true h = absurd (let q = h in cc)
-    go false h = rw (le-ltb scratch (bytes_for n) room) (told d, h, fits_all (told d) d.lawful, refl)
+    go false h = rw (le-ltb scratch (bytes_for n) room) (told d, h, most_fit (told d) d.lawful, refl)
 
 open_told : (d : Description) → not (opened (told d)) ≡ false
 open_told d = ap (λ (b : Bool). not (not b)) (ne_eqb d.outline.positions 0 (λ e. let some = d.lawful.some_positions in omega arith))
@@ -54,4 +54,4 @@ module _ (held : Option Description) (d : Description) (is : held ≡ Some d) (c
   change_made =
       let none = (gave _ e (λ x. Makes c (told d) (told x)) given).0 in
       subst (λ (o : Option Description). ChangesBy c MOST_GROUPS scratch (told_by o) (told e) (Ok tt)) (sym is)
-      (rw (open_told d, none) (told e, made, fits_all (told e) e.lawful, alike_refl))
+      (rw (open_told d, none) (told e, made, most_fit (told e) e.lawful, alike_refl))

@@ -1,3 +1,2 @@
-pub mod Fits
 pub mod Gives
 pub mod Writing

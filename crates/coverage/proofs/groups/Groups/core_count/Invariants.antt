@@ -1,6 +1,6 @@
 use Rattle.std.proofs.Common.{◌<◌}
 use Rattle.domain.specs.Tables.{TableGroup}
-use Rattle.coverage.proofs.ListedCores.{CountedTo}
+use Rattle.coverage.proofs.Counting.{CountedTo}
 use Rattle.coverage.proofs.groups.Groups.core_count.Given as goal
 
 -- the core groups below g are counted

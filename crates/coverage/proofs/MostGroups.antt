@@ -1,9 +1,10 @@
--- A table keeper has room for every description: no description has more groups than there are masks.
+-- No description has more groups than there are masks.
 use Rattle.std.proofs.Common.{◌≡◌, ℕ, zero, suc, ◌^◌, ◌<◌, ◌≤◌, List, [], ◌∷◌, length, refl, ap, subst, lt_of_not-le, arith, pow_mono}
 use native.Mathlib.Decide.{dec_le}
-use Rattle.domain.specs.Coverage.{CoreFits, Listed}
-use Rattle.domain.specs.Coverage.Listed.{here, there}
+use Rattle.domain.proofs.Lists.{Listed, here, there, contains}
+use Rattle.domain.specs.Coverage.{CoreFits, CoreList}
 use Rattle.domain.specs.Told.{Told, Group, Lawful}
+use Rattle.coverage.proofs.Counting.{fits_count, list_counted}
 use Rattle.domain.specs.declared.limits.TheConstants.{MOST_POSITIONS, MOST_GROUPS}
 
 -- the masks from k down to 1
@@ -27,8 +28,8 @@ down_lists (suc k) g pos small = go (dec_le g k) (down_lists k g pos)
         let over : k < g = lt_of_not-le above in
         let same : g ≡ suc k = omega arith in subst (λ (x : ℕ). Listed g (x ∷ down k)) same here
 
-pub fits_all : (e : Told) → Lawful e → CoreFits (Group e) MOST_GROUPS
-fits_all e law =
+pub most_fit : (e : Told) → Lawful e → CoreFits (Group e) MOST_GROUPS
+most_fit e law =
     record {
       groups = down MOST_GROUPS;
       short = let long = down_length MOST_GROUPS in omega arith;
@@ -37,5 +38,8 @@ fits_all e law =
           let few : e.n ≤ MOST_POSITIONS = law.few_positions in
           let high : 2 ^ e.n ≤ 2 ^ MOST_POSITIONS = pow_mono few in
           let below : g < 2 ^ e.n = range.1 in
-          down_lists MOST_GROUPS g range.0 (omega arith);
+          contains (down_lists MOST_GROUPS g range.0 (omega arith));
     }
+
+pub most_listed : (e : Told) → Lawful e → (gs : List ℕ) → CoreList (Group e) gs → length gs ≤ MOST_GROUPS
+most_listed e law gs c = fits_count (list_counted c) (most_fit e law)
