@@ -9,7 +9,7 @@ use Rattle.agreement.specs.Reckoning.{Given}
 use Rattle.agreement.specs.Sessions.{Call, Answer, Called, Session, done, calls}
 use Rattle.agreement.specs.declared.call.KeeperCall.{KeeperCall}
 
-session_more : {capacity : ℕ} {cs : List Call} {said : List Answer} {d e z : Told} (c : Call) (a : Answer)
+pub session_more : {capacity : ℕ} {cs : List Call} {said : List Answer} {d e z : Told} (c : Call) (a : Answer)
     → Session capacity cs d said e → Called capacity c e a z → Session capacity (cs ++ c ∷ []) d (said ++ a ∷ []) z
 session_more c a done h = calls h done
 session_more c a (calls g gs) h = calls g (session_more c a gs h)

@@ -8,3 +8,4 @@ pub mod LeastLists
 pub mod Comparisons
 pub mod Unique
 pub mod Holding
+pub mod Given

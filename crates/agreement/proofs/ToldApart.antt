@@ -1,9 +1,11 @@
 -- Alike keepers are those that nothing tells apart.
-use Rattle.std.proofs.Common.{◌≡◌, ℕ, ◌+◌, ◌<◌, ◌≤◌, true, not, List, [], ◌∷◌, ◌++◌, length, drop, replicate, Contains, Ok, sym, refl, ap, ◌∙◌, subst, arith, take_at, ne_eqb}
+use Rattle.std.proofs.Common.{◌≡◌, ℕ, ◌+◌, ◌^◌, ◌<◌, ◌≤◌, true, not, List, [], ◌∷◌, ◌++◌, length, drop, replicate, Contains, Ok, sym, refl, ap, ◌∙◌, subst, arith, take_at, ne_eqb}
+use Rattle.std.specs.List.{AllByRecursion}
 use lib.ListN.{length-replicate}
 use Rattle.coverage.proofs.CoreLeast.{core_kept, same_core}
 use Rattle.coverage.proofs.Cover.{alike_turned, same_turned, alike_trans}
 use Rattle.coverage.proofs.ExistsCore.{core_listed}
+use Rattle.coverage.proofs.MostGroups.{most_listed}
 use Rattle.domain.specs.Coverage.{Alike, CoreList}
 use Rattle.domain.specs.Told.{Told, Group}
 use Rattle.keeper.specs.Calls.{opened}
@@ -11,7 +13,7 @@ use Rattle.agreement.proofs.Calls.{session_same}
 use Rattle.agreement.proofs.Reckoned.{reckoned_told}
 use Rattle.agreement.proofs.Rules.{reckoned_lawful, reckoned_positions}
 use Rattle.agreement.specs.Laws.{NothingTellsApart, AlikeAreNotToldApart}
-use Rattle.agreement.specs.Sessions.{Call, Answer, wrote, Session, done, calls}
+use Rattle.agreement.specs.Sessions.{Call, CanBeMade, Answer, wrote, Session, done, calls}
 use Rattle.agreement.specs.declared.call.KeeperCall.TheVariants.{WriteOut}
 
 -- a core list of one of two alike descriptions is one of the other
@@ -26,6 +28,10 @@ core_moved h c =
 -- a write-out into a list of so many entries
 writing : ℕ → Call
 writing room = record { call = WriteOut; scratch = 0; room = room }
+
+possible : (room : ℕ) → room < 2 ^ 62 → AllByRecursion CanBeMade (writing room ∷ [])
+unfolding writing
+possible room small = (record { typed = tt; scratch = omega arith; room = small }, tt)
 
 -- what a write-out answers where the list is long enough
 wrote_of : (t : Told) → List ℕ → Answer
@@ -64,7 +70,7 @@ not_told_apart k s t n cs ds d e gs rd gt re = (forth, back)
     et = reckoned_told re gt
 
     forth : Alike d e → NothingTellsApart k s t
-    forth h fs these those s' t' u v =
+    forth h fs these those s' t' can u v =
         (session_same k fs s t s' t' these those (alike_trans (alike_turned ds') (alike_trans h et)) u v).0
 
     back : NothingTellsApart k s t → Alike d e
@@ -77,9 +83,11 @@ not_told_apart k s t n cs ds d e gs rd gt re = (forth, back)
         let sn : d.n ≡ s.n = ds'.positions in
         let tn : e.n ≡ t.n = et.positions in
         let room : ℕ = length c.0 + length f.0 in
+        let small : room < 2 ^ 62 =
+        (let a = most_listed d (reckoned_lawful rd) c.0 c.1 in let b = most_listed e (reckoned_lawful re) f.0 f.1 in omega (arith, a, b)) in
         let one = writes_core k room s c.0 (omega arith) (core_moved ds' c.1) (omega arith) in
         let two = writes_core k room t f.0 (omega arith) (core_moved et f.1) (omega arith) in
-        agree c.0 f.0 c.1 f.1 dn en (same (writing room ∷ []) (wrote_of s c.0 ∷ []) (wrote_of t f.0 ∷ []) s t one two)
+        agree c.0 f.0 c.1 f.1 dn en (same (writing room ∷ []) (wrote_of s c.0 ∷ []) (wrote_of t f.0 ∷ []) s t (possible room small) one two)
       where
         agree : (gs hs : List ℕ) → CoreList (Group d) gs → CoreList (Group e) hs → d.n ≡ n → e.n ≡ n
             → wrote_of s gs ∷ [] ≡ wrote_of t hs ∷ [] → Alike d e

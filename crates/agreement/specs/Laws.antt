@@ -1,19 +1,21 @@
 -- The laws over runs, for keepers of any build and any list of calls.
-use Rattle.std.specs.Prelude.{◌≡◌, ℕ, ◌↔◌, List, ◌++◌, length, drop, Contains, Ok, Err, Result}
+use Rattle.std.specs.Prelude.{◌≡◌, ℕ, ◌↔◌, List, ◌++◌, length, drop, Contains, Ok, Err, Result, Bool, IsTrue, IfOk, OnOk, [], ◌∷◌}
+use Rattle.std.specs.List.{AllByRecursion}
 use Rattle.domain.specs.Coverage.{Alike, SameCover, CoreList}
 use Rattle.domain.specs.Told.{Told, Group}
 use Rattle.keeper.specs.declared.fault.KeeperFault.{KeeperFault}
 use Rattle.keeper.specs.declared.write_out.WrittenOut.{WrittenOut}
 use Rattle.agreement.specs.Reckoning.{Opened, Reckoned, Given}
-use Rattle.agreement.specs.Sessions.{Call, Answer, Session}
+use Rattle.agreement.specs.Sessions.{Call, CanBeMade, Answer, Session}
 
 -- ---- alike keepers are those that nothing tells apart
 
--- No further list of calls tells two keepers apart that have one capacity and tell s and t:
+-- No further list of calls that can be made tells two keepers apart that have one capacity and tell s and t:
 -- whatever the one may answer, the other answers the same.
 abbrev pub NothingTellsApart : ℕ → Told → Told → Type 0
 NothingTellsApart capacity s t =
     (cs : List Call) (these those : List Answer) (s' t' : Told)
+    → AllByRecursion CanBeMade cs
     → Session capacity cs s these s' → Session capacity cs t those t' → these ≡ those
 
 -- s and t are told by keepers of one capacity, each opened with n positions and given a list of calls:
@@ -24,6 +26,13 @@ AlikeAreNotToldApart capacity s t =
     → Given n capacity cs s → Reckoned n capacity cs d
     → Given n capacity ds t → Reckoned n capacity ds e
     → Alike d e ↔ NothingTellsApart capacity s t
+
+-- What the answer of a comparison means, of keepers of one capacity that were opened with one n and each given any
+-- calls: yes exactly when nothing tells them apart.
+abbrev pub MeansAlike : ℕ → Told → Told → Result Bool KeeperFault → Type 0
+MeansAlike capacity s t r =
+    (n : ℕ) (cs ds : List Call) → Opened n → Given n capacity cs s → Given n capacity ds t
+    → IfOk r (λ yes'. IsTrue yes' ↔ NothingTellsApart capacity s t)
 
 -- every opened keeper has a reckoned description, and only one
 pub record OneReckoned : Type 0 where
@@ -50,3 +59,14 @@ abbrev pub WriteOutIsLeast : ℕ → Told → List ℕ → List ℕ → Result W
 WriteOutIsLeast capacity t list list' (Ok w) =
     (n : ℕ) (cs : List Call) (d : Told) → Given n capacity cs t → Reckoned n capacity cs d → WritesLeast d list list' w
 WriteOutIsLeast capacity t list list' (Err f) = Unit {0}
+
+-- ---- keepers that the laws speak of
+
+-- an accepted open makes a keeper one that was opened with n positions and given no calls
+abbrev pub OpensGiven : ℕ → ℕ → Told → Result (Unit {0}) KeeperFault → Type 0
+OpensGiven n capacity t r = OnOk r (Opened n × Given n capacity [] t)
+
+-- one call more makes a keeper that was given some calls one that was given these and that one
+abbrev pub OneMoreGiven : ℕ → Call → Told → Told → Type 0
+OneMoreGiven capacity c before after =
+    (n : ℕ) (cs : List Call) → Given n capacity cs before → Given n capacity (cs ++ c ∷ []) after

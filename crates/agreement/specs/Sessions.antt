@@ -1,10 +1,11 @@
 -- Sessions: lists of calls of a keeper, refused ones with them, and the answers it gives.
-use Rattle.std.specs.Prelude.{◌≡◌, ℕ, Bool, List, [], ◌∷◌, length, take, Ok, Err, Result}
+use Rattle.std.specs.Prelude.{◌≡◌, ℕ, ◌^◌, ◌<◌, Bool, List, [], ◌∷◌, length, take, Ok, Err, Result}
+use Rattle.domain.specs.Changes.{IsTyped}
 use Rattle.domain.specs.Told.{Told}
 use Rattle.domain.specs.declared.marks.Marks.{Marks}
 use Rattle.domain.specs.declared.refusal.Refusal.{Refusal}
 use Rattle.keeper.specs.Calls.{ChangesBy, Writes}
-use Rattle.keeper.specs.Questions.{Asks}
+use Rattle.keeper.specs.Questions.{Asks, IsTypedQuestion}
 use Rattle.keeper.specs.declared.fault.KeeperFault.{KeeperFault}
 use Rattle.keeper.specs.declared.write_out.WrittenOut.{WrittenOut}
 use Rattle.agreement.specs.declared.call.KeeperCall.{KeeperCall}
@@ -15,6 +16,19 @@ pub record Call : Type 0 where
   pub call : KeeperCall (List ℕ)
   pub scratch : ℕ
   pub room : ℕ
+
+-- by the kind of call
+abbrev pub IsTypedCall : KeeperCall (List ℕ) → Type 0
+IsTypedCall (Change c) = IsTyped c
+IsTypedCall (Ask q) = IsTypedQuestion q
+IsTypedCall WriteOut = Unit {0}
+
+-- the call can be made: its arguments are in the ranges of their types, and what is lent with it exists, since
+-- no slice has 2 to the power 63 bytes
+pub record CanBeMade (c : Call) : Type 0 where
+  pub typed : IsTypedCall c.call
+  pub scratch : c.scratch < 2 ^ 63
+  pub room : c.room < 2 ^ 62
 
 -- accepted, yes or no, a refusal, or a write-out's count, marks and groups
 pub data Answer : Type 0 where

@@ -1,7 +1,7 @@
 //! Comparing two keepers, of one build or of two.
 ghost use Rattle.std.specs.Prelude.{◌≡◌};
 ghost use Rattle.agreement.specs.Comparing.{Compared};
-ghost use Rattle.agreement.specs.Laws.{AlikeAreNotToldApart};
+ghost use Rattle.agreement.specs.Laws.{AlikeAreNotToldApart, MeansAlike};
 
 use keeper::{Keeper, KeeperFault};
 
@@ -16,6 +16,8 @@ pub fn are_alike<A: Keeper, B: Keeper>(
 ) -> Result<bool, KeeperFault>
     ensures compared { Compared (A.Keeper.told a.now) (B.Keeper.told b.now) first.old first.new
         second.old second.new result }
+    ensures means { A.Keeper.capacity a.now ≡ B.Keeper.capacity b.now
+        → MeansAlike (A.Keeper.capacity a.now) (A.Keeper.told a.now) (B.Keeper.told b.now) result }
     ensures not_told_apart { A.Keeper.capacity a.now ≡ B.Keeper.capacity b.now
         → AlikeAreNotToldApart (A.Keeper.capacity a.now) (A.Keeper.told a.now) (B.Keeper.told b.now) }
 {

@@ -1,5 +1,5 @@
 -- The calls that change a description: their tests, in order, and what each makes of it.
-use Rattle.std.specs.Prelude.{ℕ, ◌^◌, ◌<◌, List, Some, None, Option}
+use Rattle.std.specs.Prelude.{ℕ, ◌^◌, ◌<◌, List, length, All, Some, None, Option}
 use Rattle.std.specs.Borrow.{Bor}
 use Rattle.domain.specs.Binding.{Bound}
 use Rattle.domain.specs.Forgetting.{Forgotten}
@@ -48,3 +48,11 @@ abbrev pub IsAllowed : ℕ → Change (List ℕ) → Type 0
 IsAllowed n (Bind x t) = Unit {0}
 IsAllowed n (Join other) = LawfulListing n other
 IsAllowed n (Forget m) = m < 2 ^ n
+
+-- the arguments are in the ranges of their types, and the groups of a join lie in a slice that exists
+abbrev pub IsTyped : Change (List ℕ) → Type 0
+IsTyped (Bind x t) = (x < 2 ^ 8) × (t.held < 2 ^ 16) × (t.repeated < 2 ^ 16)
+IsTyped (Join other) =
+    (other.marks.free < 2 ^ 16) × (other.marks.linear < 2 ^ 16)
+    × (All (λ g. g < 2 ^ 16) other.groups × (length other.groups < 2 ^ 62))
+IsTyped (Forget m) = m < 2 ^ 16
