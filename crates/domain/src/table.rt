@@ -39,7 +39,7 @@ pub fn put(table: &mut [u8], g: u16, on: bool)
     ensures past { length table.old ≤ g / 8 → table.new ≡ table.old }
 {
     let place = usize::from(g / 8);
-    // not `get_mut`: what the table is once the byte that it lends is written is not known where this returns
+    // put by index (docs/DECISIONS.md)
     if place < table.len() {
         // the cast narrows; it is proved to fit
         table[place] = with_bit(table[place], (g % 8) as u8, on);

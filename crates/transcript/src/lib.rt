@@ -29,8 +29,7 @@ pub fn transcript(
     }
 }
 
-// The lines of as many marks as the outcome says, or of all where there are fewer: the outcome may say more than
-// the list has, so it is a number and no slice.
+// The lines of so many marks, or of all where there are fewer.
 #[tactic(auto, using(crate::proofs::Transcripts::lines_more))]
 fn mark_lines(heap: Global, marks: &[StepMark], count: usize) -> Result<String, AllocError>
     ensures { IfOk result (λ s. string_bytes s ≡ lines_of (take count marks.now)) }

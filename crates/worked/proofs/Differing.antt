@@ -1,5 +1,5 @@
 -- Two shortcuts of the bind rule, each computed beside the rule.
-use Rattle.std.proofs.Common.{◌≡◌, ℕ, true, false, List, [], ◌∷◌, ◌++◌, refl, subst, inl, inr}
+use Rattle.std.proofs.Common.{◌≡◌, ℕ, true, false, List, [], ◌∷◌, ◌++◌, refl, subst, inl, inr, ◌≤◌, None, Option, IfSome, sym, arith}
 use lib.Bits.{bit_or}
 use lib.Count.{ones}
 use Rattle.agreement.proofs.Unique.{one_reckoned}
@@ -11,7 +11,7 @@ use Rattle.domain.specs.Terms.{bare_term, constant_term, over_term}
 use Rattle.domain.specs.Told.{Told}
 use Rattle.domain.specs.declared.limits.TheConstants.{MOST_GROUPS}
 use Rattle.domain.specs.declared.term.Term.{Term}
-use Rattle.worked.specs.Rows.{Row, Shows, Worked}
+use Rattle.worked.specs.Rows.{Row, Shows, SpeaksOf, Worked}
 use Rattle.worked.specs.Shortcuts.{FreeAgain, CountedLinear, SharersAreNotLinear, Counting, OmittingGround, Differs, sharers, repeats, CountingDiffers, OmittingGroundDiffers}
 use Rattle.worked.specs.Table.{bind_to, row}
 use Rattle.worked.proofs.BindMarks.{marks_free_or_ground}
@@ -23,19 +23,23 @@ use Rattle.worked.proofs.Positions.{IsMaskOf, marks_as, marks_self, marks_none, 
 use Rattle.worked.proofs.States.{State, tell, linear_term, ground_of, bind_by}
 use Rattle.worked.proofs.Verdicts.{says_linear_term}
 
+-- a row that speaks of every keeper with room speaks of the one with the least
+own : (r : Row) → r.most ≡ None → SpeaksOf r r.least
+own r ends = (omega arith, subst (λ (o : Option ℕ). IfSome o (λ most. r.least ≤ most)) (sym ends) tt)
+
 -- the row of the calls before the bind, and what the shortcut makes of the state that it writes out
 differs : {Shortcut : Told → ℕ → Term → Told → Type 0} {x : ℕ} {t : Term} (before right wrong : Row) → found before ≡ claimed before
-    → right.n ≡ before.n → right.capacity ≡ before.capacity → right.calls ≡ before.calls ++ (bind_to x t ∷ []) → Worked right
+    → right.n ≡ before.n → right.least ≡ before.least → before.most ≡ None → right.calls ≡ before.calls ++ (bind_to x t ∷ []) → Worked right
     → Shortcut (tell (written before)) x t (tell (written wrong)) → Reads wrong → Differs Shortcut before.calls x t right wrong
-differs {Shortcut} {x} {t} before right wrong c en ek calls rule made reads =
+differs {Shortcut} {x} {t} before right wrong c en ek ends calls rule made reads =
     record {
       calls = calls;
       rule = rule;
       shortcut =
           λ d r.
           subst (λ (d : Told). (e : Told) × Shortcut d x t e × Shows wrong e)
-          (one_reckoned.one before.n before.capacity before.calls (tell (written before)) d (reckoned before c)
-          (subst (λ k. Reckoned before.n k before.calls d) ek (subst (λ n. Reckoned n right.capacity before.calls d) en r)))
+          (one_reckoned.one before.n before.least before.calls (tell (written before)) d (reckoned before c before.least (own before ends))
+          (subst (λ k. Reckoned before.n k before.calls d) ek (subst (λ n. Reckoned n right.least before.calls d) en r)))
           (tell (written wrong), made, shown wrong reads);
     }
 
@@ -46,19 +50,19 @@ not_bare m e = absurd (both_ways false refl e)
 -- ---- counting
 
 abbrev pair : Row
-pair = row 2 (bind_to 0 (bare_term 1) ∷ []) (3 ∷ []) (3 ∷ []) 3 3
+pair = row 2 2 (bind_to 0 (bare_term 1) ∷ []) (3 ∷ []) (3 ∷ []) 3 3
 
 pub sharers_are_not_linear : SharersAreNotLinear
 unfolding computing
 sharers_are_not_linear d r =
     subst (λ (d : Told). CountedLinear d (over_term 3 0) × (LinearTerm d (over_term 3 0) → ⊥))
-    (one_reckoned.one 2 MOST_GROUPS pair.calls (tell (written pair)) d (reckoned pair refl) r) (
+    (one_reckoned.one 2 MOST_GROUPS pair.calls (tell (written pair)) d (reckoned pair refl MOST_GROUPS (omega arith, tt)) r) (
       record { each = λ p i. (i, λ j. none_in j) },
       says_not (says_linear_term (written pair) (over_term 3 0) (ltb-true 3 4 refl)) refl,
     )
 
 abbrev shared : Row
-shared = row 5 sharers (7 ∷ 9 ∷ 17 ∷ []) (7 ∷ 9 ∷ 17 ∷ []) 30 31
+shared = row 5 5 sharers (7 ∷ 9 ∷ 17 ∷ []) (7 ∷ 9 ∷ 17 ∷ []) 30 31
 
 counted : Says true (CountedLinear (tell (written shared)) (over_term 6 0))
 counted =
@@ -80,14 +84,14 @@ counted_state = refl
 pub counting_differs : CountingDiffers
 unfolding computing
 counting_differs =
-    differs {Shortcut = Counting} shared _ _ refl refl refl refl (worked _ refl)
+    differs {Shortcut = Counting} shared _ _ refl refl refl refl refl (worked _ refl)
     (subst (λ s. Counting (tell (written shared)) 0 (over_term 6 0) (tell s)) counted_state by_counting)
     (record { in_range = refl; core = refl })
 
 -- ---- ground positions left out
 
 abbrev repeated : Row
-repeated = row 2 repeats (3 ∷ []) (3 ∷ []) 2 2
+repeated = row 2 2 repeats (3 ∷ []) (3 ∷ []) 2 2
 
 abbrev none_again : List ℕ → ℕ
 none_again gs = 0
@@ -110,6 +114,6 @@ marked_state = refl
 pub omitting_ground_differs : OmittingGroundDiffers
 unfolding computing
 omitting_ground_differs =
-    differs {Shortcut = OmittingGround} repeated _ _ refl refl refl refl (worked _ refl)
+    differs {Shortcut = OmittingGround} repeated _ _ refl refl refl refl refl (worked _ refl)
     (subst (λ s. OmittingGround (tell (written repeated)) 0 constant_term (tell s)) marked_state omitting_ground)
     (record { in_range = refl; core = refl })

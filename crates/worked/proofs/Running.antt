@@ -1,6 +1,6 @@
 -- Calls run on a computed description: what is reckoned of them, and what every keeper answers.
-use Rattle.std.proofs.Common.{◌≡◌, ℕ, Bool, true, false, not, ◌&&◌, leb, List, [], ◌∷◌, length, Some, None, Ok, Err, Option, sym, refl, arith}
-use Rattle.std.proofs.lemmas.Bool.{leb-true, leb-false, and_parts, both_ways}
+use Rattle.std.proofs.Common.{◌≡◌, ℕ, Bool, true, false, not, ◌&&◌, leb, ◌≤◌, List, [], ◌∷◌, length, Some, None, Ok, Err, Option, sym, refl, ap, ◌∙◌, arith}
+use Rattle.std.proofs.lemmas.Bool.{le-leb, leb-true, leb-false, and_parts, both_ways}
 use Rattle.agreement.proofs.Rules.{made_lawful, reckons_lawful}
 use Rattle.agreement.specs.Reckoning as reckoning
 use Rattle.agreement.specs.Reckoning.{TakesEffect, refused, exceeds, makes, ReckonsBy, ReckonsAll}
@@ -122,6 +122,47 @@ state_after k (c ∷ cs) s = state_after k cs (called_on k c.scratch c.call s).s
 unfoldable pub answers_of : ℕ → List Call → State → List Answer
 answers_of k [] s = []
 answers_of k (c ∷ cs) s = let r = called_on k c.scratch c.call s in r.answer ∷ answers_of k cs r.state
+
+-- ---- more room
+
+abbrev is_accepted : Answer → Bool
+is_accepted accepted = true
+is_accepted (sessions.says b) = false
+is_accepted (sessions.refused r) = false
+is_accepted (sessions.wrote n m gs) = false
+
+abbrev pub are_accepted : List Answer → Bool
+are_accepted [] = true
+are_accepted (a ∷ as') = is_accepted a && are_accepted as'
+
+-- a change that is accepted is so with more room, and comes to the same
+changed_larger : (j k : ℕ) → j ≤ k → (o : Option Refusal) (e s : State) → is_accepted (changed j o e s).answer ≡ true → changed k o e s ≡ changed j o e s
+unfolding changed
+changed_larger j k h (Some r) e s a = refl
+changed_larger j k h None e s a = go (leb (length (core_of e.n e.groups)) j) refl a
+  where
+    go : (b : Bool) → leb (length (core_of e.n e.groups)) j ≡ b → is_accepted (taken b e s).answer ≡ true
+        → taken (leb (length (core_of e.n e.groups)) k) e s ≡ taken b e s
+    go true q a = ap (λ (b : Bool). taken b e s) (le-leb (length (core_of e.n e.groups)) k (omega (arith, leb-true (length (core_of e.n e.groups)) j q)))
+    go false q a = absurd (both_ways false refl a)
+
+called_larger : (j k z : ℕ) → j ≤ k → (c : KeeperCall (List ℕ)) (s : State) → is_accepted (called_on j z c s).answer ≡ true → called_on k z c s ≡ called_on j z c s
+unfolding called_on
+called_larger j k z h (Change c) s a = changed_larger j k h (change_refusal (tell s) c z) (change_of c s) s a
+called_larger j k z h (Ask q) s a = refl
+called_larger j k z h WriteOut s a = refl
+
+pub all_larger : (j k : ℕ) → j ≤ k → (cs : List Call) (s : State) → are_accepted (answers_of j cs s) ≡ true
+    → (state_after k cs s ≡ state_after j cs s) × (answers_of k cs s ≡ answers_of j cs s)
+unfolding state_after answers_of
+all_larger j k h [] s a = (refl, refl)
+all_larger j k h (c ∷ cs) s a =
+    let p = and_parts (is_accepted (called_on j c.scratch c.call s).answer) (are_accepted (answers_of j cs (called_on j c.scratch c.call s).state)) a in
+    let one = called_larger j k c.scratch h c.call s p.0 in
+    let rest = all_larger j k h cs (called_on j c.scratch c.call s).state p.1 in (
+      ap (λ (r : Outcome). state_after k cs r.state) one ∙ rest.0,
+      ap (λ (r : Outcome). r.answer ∷ answers_of k cs r.state) one ∙ ap (λ (as' : List Answer). (called_on j c.scratch c.call s).answer ∷ as') rest.1,
+    )
 
 pub record Ran (k : ℕ) (cs : List Call) (s : State) : Type 0 where
   pub reckons : ReckonsAll k cs (tell s) (tell (state_after k cs s))

@@ -15,7 +15,7 @@ use Rattle.keeper.specs.declared.write_out.WrittenOut.{WrittenOut}
 use Rattle.worked.specs.Rows.{Row, Shows, AllWorked}
 use Rattle.worked.specs.Writing.{WritesRow, WritesRows}
 
-module _ (r : Row) (t : Told) (alike : (d : Told) × Reckoned r.n r.capacity r.calls d × Shows r d × Alike d t) where
+module _ (r : Row) (k : ℕ) (t : Told) (alike : (d : Told) × Reckoned r.n k r.calls d × Shows r d × Alike d t) where
   core : CoreList (Group t) r.core
   core = core_moved alike.3 alike.2.core
 
@@ -50,10 +50,10 @@ pub rows_written : (rs : List Row) → AllWorked rs → (capacity : ℕ) (t : To
     → WritesRows rs capacity t list list' w
 rows_written [] ws k t list list' w h = tt
 rows_written (r ∷ rs) ws k t list list' w h = (
-  λ e given.
-      let one = ws.0 in
-      row_written r t
-      (one.told, one.reckoned, one.shows one.told one.reckoned, reckoned_told one.reckoned (subst (λ c. Given r.n c r.calls t) (sym e) given))
+  λ speaks given.
+      let one = ws.0 k speaks in
+      row_written r k t
+      (one.told, one.reckoned, one.shows one.told one.reckoned, reckoned_told one.reckoned given)
       list list' w h,
   rows_written rs ws.1 k t list list' w h,
 )

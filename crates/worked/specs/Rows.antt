@@ -1,5 +1,5 @@
 -- A worked example: a keeper is opened and given some calls, and what then stands is written out.
-use Rattle.std.specs.Prelude.{◌≡◌, ℕ, ◌↔◌, List, [], ◌∷◌, Contains}
+use Rattle.std.specs.Prelude.{◌≡◌, ℕ, ◌≤◌, ◌↔◌, List, [], ◌∷◌, Contains, IfSome, Option}
 use Rattle.domain.specs.Coverage.{CoreList}
 use Rattle.domain.specs.Opening.{New}
 use Rattle.domain.specs.Told.{Told, Group}
@@ -9,7 +9,9 @@ use Rattle.agreement.specs.Sessions.{Call, Answer, Session}
 
 pub record Row : Type 0 where
   pub n : ℕ
-  pub capacity : ℕ
+  -- the row speaks of every keeper with room for so many core groups, and, where there is such a number, for no more
+  pub least : ℕ
+  pub most : Option ℕ
   pub calls : List Call
   -- what every keeper answers to the calls
   pub answers : List Answer
@@ -24,15 +26,23 @@ pub record Shows (r : Row) (d : Told) : Type 0 where
   pub core : CoreList (Group d) r.core
   pub marks : d.marks ≡ r.marks
 
--- the row is right
-pub record Worked (r : Row) : Type 0 where
+-- the capacities of the keepers that the row speaks of
+abbrev pub SpeaksOf : Row → ℕ → Type 0
+SpeaksOf r capacity = (r.least ≤ capacity) × IfSome r.most (λ most. capacity ≤ most)
+
+-- the row is right of keepers of one capacity
+pub record WorkedAt (r : Row) (capacity : ℕ) : Type 0 where
   -- the rules reckon a description from the row's calls, and it is the one written out
   pub told : Told
-  pub reckoned : Reckoned r.n r.capacity r.calls told
-  pub shows : (d : Told) → Reckoned r.n r.capacity r.calls d → Shows r d
+  pub reckoned : Reckoned r.n capacity r.calls told
+  pub shows : (d : Told) → Reckoned r.n capacity r.calls d → Shows r d
   -- every keeper that is opened and given the calls answers as written
   pub answers : (start after : Told) (those : List Answer) → New r.n start
-      → Session r.capacity r.calls start those after → those ≡ r.answers
+      → Session capacity r.calls start those after → those ≡ r.answers
+
+-- the row is right of all the keepers that it speaks of
+abbrev pub Worked : Row → Type 0
+Worked r = (capacity : ℕ) → SpeaksOf r capacity → WorkedAt r capacity
 
 -- every row of a list is right
 abbrev pub AllWorked : List Row → Type 0

@@ -99,7 +99,7 @@ bound before x t = before ++ (bind_to x t ∷ [])
 pub record Differs (Shortcut : Told → ℕ → Term → Told → Type 0) (before : List Call) (x : ℕ) (t : Term) (right wrong : Row) : Type 0 where
   pub calls : right.calls ≡ bound before x t
   pub rule : Worked right
-  pub shortcut : (d : Told) → Reckoned right.n right.capacity before d → (e : Told) × Shortcut d x t e × Shows wrong e
+  pub shortcut : (d : Told) → Reckoned right.n right.least before d → (e : Told) × Shortcut d x t e × Shows wrong e
 
 -- 0 is bound to f(1, 3, 4) and 2 to position 1; then 0 to f(1, 2), where 1 and 2 share
 abbrev pub sharers : List Call
@@ -108,8 +108,8 @@ sharers = bind_to 0 (over_term 26 0) ∷ bind_to 2 (bare_term 1) ∷ []
 abbrev pub CountingDiffers : Type 0
 CountingDiffers =
     Differs Counting sharers 0 (over_term 6 0)
-    (row 5 (bound sharers 0 (over_term 6 0)) (7 ∷ 15 ∷ 23 ∷ 31 ∷ []) (7 ∷ 15 ∷ 23 ∷ 31 ∷ []) 0 0)
-    (row 5 (bound sharers 0 (over_term 6 0)) (7 ∷ 15 ∷ 23 ∷ []) (7 ∷ 15 ∷ 23 ∷ []) 0 24)
+    (row 5 5 (bound sharers 0 (over_term 6 0)) (7 ∷ 15 ∷ 23 ∷ 31 ∷ []) (7 ∷ 15 ∷ 23 ∷ 31 ∷ []) 0 0)
+    (row 5 5 (bound sharers 0 (over_term 6 0)) (7 ∷ 15 ∷ 23 ∷ []) (7 ∷ 15 ∷ 23 ∷ []) 0 24)
 
 -- 0 is bound to f(1, 1), then to a constant
 abbrev pub repeats : List Call
@@ -117,4 +117,4 @@ repeats = bind_to 0 (over_term 2 2) ∷ []
 
 abbrev pub OmittingGroundDiffers : Type 0
 OmittingGroundDiffers =
-    Differs OmittingGround repeats 0 constant_term (row 2 (bound repeats 0 constant_term) [] [] 0 3) (row 2 (bound repeats 0 constant_term) [] [] 0 2)
+    Differs OmittingGround repeats 0 constant_term (row 2 2 (bound repeats 0 constant_term) [] [] 0 3) (row 2 2 (bound repeats 0 constant_term) [] [] 0 2)
