@@ -255,6 +255,37 @@ fn short_work_lists(rt: HostRuntime) -> Result<(), Fail> {
     Ok(())
 }
 
+// A keeper that was opened before the run refuses the sheet's open itself, and no mark is written.
+#[test]
+fn a_keeper_that_is_open_already(rt: HostRuntime) -> Result<(), Fail> {
+    let mut keeper = TableKeeper::new();
+    let mut marks = [StepMark::blank(); 3];
+    let mut scratch = [0u8; TABLE_BYTES];
+    keeper.open(2, &mut scratch)?;
+    let Err(fault) = run(
+        &mut keeper,
+        &THREE_STEPS,
+        &mut WorkLists {
+            marks: &mut marks,
+            groups: &mut [],
+            scratch: &mut scratch,
+        },
+    ) else {
+        return Err(Fail::new("the keeper is open already"));
+    };
+    assert_eq!(rt;
+        fault.refused(),
+        Refused {
+            number: 4,
+            place: 0,
+            step: 0,
+            layer: Layer::Keeper,
+        }
+    );
+    assert!(rt; marks == [StepMark::blank(); 3]);
+    Ok(())
+}
+
 // The groups of a join need as many entries of the list that is lent for them.
 #[test]
 fn one_group_too_few(rt: HostRuntime) -> Result<(), Fail> {
