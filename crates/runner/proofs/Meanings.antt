@@ -1,5 +1,5 @@
 -- Keepers with room that play one script write the same marks and end alike.
-use Rattle.std.proofs.Common.{◌≡◌, ℕ, ◌+◌, ◌≤◌, Bool, not, eqb, ◌⊎◌, List, ◌∷◌, ◌++◌, length, drop, Some, None, Ok, Err, Option, Result, sym, refl, ap, ◌∙◌, subst, inl, inr}
+use Rattle.std.proofs.Common.{◌≡◌, ℕ, ◌+◌, ◌≤◌, Bool, not, eqb, ◌⊎◌, List, ◌∷◌, ◌++◌, length, Some, None, Ok, Err, Option, Result, sym, refl, ap, ◌∙◌, subst, inl, inr}
 use Rattle.agreement.proofs.Agreeing.{alike_ends, fits_more}
 use Rattle.agreement.proofs.Calls.{asks_same}
 use Rattle.coverage.proofs.ChangeLaws.{change_alike}
@@ -165,6 +165,13 @@ module _ (s : Setting) (large : ℕ) (room : s.capacity ≤ large) where
 
 pub ran_everywhere : (s : Setting) (t : Transition) (marks marks' : List StepMark) (r : Result ℕ SheetFault)
     → Ran s t marks marks' r → SameEverywhere s t marks marks' r
-ran_everywhere s t marks marks' r ran shut enough larger u written r' more shut' played =
-    let same = plays_match s larger more (script_of s.sheet s.groups (length marks)) 0 t.before u.before t.after u.after ran.written written r r' (inr (shut, shut')) enough ran.played played in
-    (ran.marked ∙ ap (λ (l : List StepMark). l ++ drop (length l) marks) same.0, same.1, same.2)
+ran_everywhere s t marks marks' r one =
+    record {
+      written = one.written;
+      marked = one.marked;
+      same = λ shut enough larger u others others' r' more shut' long other.
+          plays_match s larger more (script_of s.sheet s.groups (length marks)) 0 t.before u.before t.after u.after
+          one.written other.written r r' (inr (shut, shut')) enough one.played
+          (subst (λ (k : ℕ). Plays (record s { capacity = larger }) (script_of s.sheet s.groups k) 0 u.before other.written r' u.after) long
+          other.played);
+    }
