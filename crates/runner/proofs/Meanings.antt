@@ -1,5 +1,5 @@
 -- Keepers with room that play one script write the same marks and end alike.
-use Rattle.std.proofs.Common.{◌≡◌, ℕ, ◌+◌, ◌≤◌, Bool, not, eqb, ◌⊎◌, List, ◌∷◌, ◌++◌, length, drop, Some, None, Ok, Err, Option, Result, sym, refl, ap, ◌∙◌, subst, inl, inr}
+use Rattle.std.proofs.Common.{◌≡◌, ℕ, ◌≤◌, Bool, not, eqb, List, ◌∷◌, ◌++◌, length, Some, None, Ok, Err, Option, Result, sym, refl, ap, ◌∙◌, subst, inl, inr}
 use Rattle.agreement.proofs.Agreeing.{alike_ends, fits_more}
 use Rattle.agreement.proofs.Calls.{asks_same}
 use Rattle.coverage.proofs.ChangeLaws.{change_alike}
@@ -21,15 +21,15 @@ use Rattle.keeper.specs.Questions.{Asks}
 use Rattle.keeper.specs.declared.fault.KeeperFault.{KeeperFault}
 use Rattle.keeper.specs.declared.questions.Question.{Question}
 use Rattle.keeper.specs.declared.questions.Question.TheVariants.{Ground, Free, Linear, Pair}
-use Rattle.sheet.specs.Faults.{fault_at}
 use Rattle.sheet.specs.declared.fault.RunnerFault.TheVariants.{Keeper}
 use Rattle.sheet.specs.declared.fault.SheetFault.{SheetFault}
 use Rattle.sheet.specs.declared.mark.StepMark.{StepMark}
 use Rattle.sheet.specs.declared.steps.Step.{Step}
 use Rattle.sheet.specs.declared.steps.Step.TheVariants.{Open, Change, Ask, End}
+use Rattle.runner.proofs.Plays.{Agreed, plays_match}
 use Rattle.runner.specs.Meaning.{Matched, HadRoom, SameEverywhere}
-use Rattle.runner.specs.Playing.{Plays, ends, breaks, stops, goes, Ran, mark_of}
-use Rattle.runner.specs.Running.{Script, finished, broken, follows, script_of}
+use Rattle.runner.specs.Playing.{Plays, Ran}
+use Rattle.runner.specs.Running.{Script, script_of}
 use Rattle.runner.specs.Serving.{Serves, accepted_of, change_on}
 use Rattle.runner.specs.Settings.{Setting, Transition}
 
@@ -44,7 +44,7 @@ positions_match (inr shut) = shut.1 ∙ sym shut.0
 
 -- the result of a step is the same, or the smaller capacity refuses
 abbrev Agree : {R : Type 0} → Result R KeeperFault → Result R KeeperFault → Told → Told → Type 0
-Agree r r' e e' = ((r ≡ r') × Matched e e') ⊎ (r ≡ Err (fault_of Capacity))
+Agree = Agreed Matched (λ f. f ≡ fault_of Capacity)
 
 -- what leaves exactly what the rule gives leaves what is alike
 exactly_alike : (o : Option Refusal) (capacity : ℕ) (Rule : Told → Type 0) (d after : Told) (r : Result (Unit {0}) KeeperFault)
@@ -78,7 +78,7 @@ module _ (small large : ℕ) (room : small ≤ large) (d d' : Told) (matched : M
       inl (refl, inl (alike_trans (alike_turned h.3) (alike_trans (given h.0 h'.0 h.1 h'.1) h'.3)))
   changes_match Rule Rule' given None after after' (Ok u) (Err f) h h' =
       absurd (h'.2.2 (fits_more room (core_fits (given h.0 h'.2.0 h.1 h'.2.1) h.2)))
-  changes_match Rule Rule' given None after after' (Err f) r' h h' = inr (ap (λ (x : KeeperFault). Err x) h.0)
+  changes_match Rule Rule' given None after after' (Err f) r' h h' = inr (f, refl, h.0)
 
   opens_match : (n scratch : ℕ) (after after' : Told) (r r' : Result (Unit {0}) KeeperFault)
       → Opens small n scratch d after r → Opens large n scratch d' after' r' → Agree r r' after after'
@@ -114,7 +114,7 @@ module _ (small large : ℕ) (room : small ≤ large) (d d' : Told) (matched : M
 accepted : {e e' : Told} (done done' : Result (Unit {0}) KeeperFault) (r r' : Result Bool KeeperFault)
     → r ≡ accepted_of done → r' ≡ accepted_of done' → Agree done done' e e' → Agree r r' e e'
 accepted done done' r r' p q (inl same) = inl (p ∙ ap accepted_of same.0 ∙ sym q, same.1)
-accepted done done' r r' p q (inr low) = inr (p ∙ ap accepted_of low)
+accepted done done' r r' p q (inr low) = inr (low.0, p ∙ ap accepted_of low.1, low.2)
 
 -- two keepers play one script
 module _ (s : Setting) (large : ℕ) (room : s.capacity ≤ large) where
@@ -133,38 +133,23 @@ module _ (s : Setting) (large : ℕ) (room : s.capacity ≤ large) where
       inl (asks_match s.capacity large room t.before t'.before m q r r' h.0 h'.0, matched_ends h.1 h'.1 m)
   serves_match End t t' r r' m h h' = inl (h.0 ∙ sym h'.0, matched_ends h.1 h'.1 m)
 
-  plays_match : (script : Script) (k : ℕ) (d d' e e' : Told) (ms ms' : List StepMark) (r r' : Result ℕ SheetFault)
+  plays_everywhere : (script : Script) (k : ℕ) (d d' e e' : Told) (ms ms' : List StepMark) (r r' : Result ℕ SheetFault)
       → Matched d d' → HadRoom r
-      → Plays s script k d ms r e → Plays wide script k d' ms' r' e'
+      → Plays (Serves s) script k d ms r e → Plays (Serves wide) script k d' ms' r' e'
       → (ms ≡ ms') × (r ≡ r') × Matched e e'
-  plays_match finished k d d' e e' ms ms' r r' m enough ends ends = (refl, refl, m)
-  plays_match (broken place f) k d d' e e' ms ms' r r' m enough breaks breaks = (refl, refl, m)
-  plays_match (follows place step rest) k d d' e e' ms ms' r r' m enough (stops {f = f} h) (stops {f = f'} h') =
-      elim (serves_match step _ _ (Err f) (Err f') m h h') [
-        | inl same ↦ let p : f ≡ f' = (let q = same.0 in cc) in (refl, ap (λ (x : KeeperFault). Err (fault_at (Keeper x) k place)) p, same.1)
-        | inr low ↦ let p : f ≡ fault_of Capacity = cc in absurd (enough (fault_at (Keeper f) k place) refl (ap (λ (x : KeeperFault). Keeper x) p))
-      ]
-  plays_match (follows place step rest) k d d' e e' ms ms' r r' m enough (stops {f = f} h) (goes {b = b} h' p') =
-      elim (serves_match step _ _ (Err f) (Ok b) m h h') [
-        | inl same ↦ absurd (let q = same.0 in cc)
-        | inr low ↦ let p : f ≡ fault_of Capacity = cc in absurd (enough (fault_at (Keeper f) k place) refl (ap (λ (x : KeeperFault). Keeper x) p))
-      ]
-  plays_match (follows place step rest) k d d' e e' ms ms' r r' m enough (goes {b = b} h p) (stops {f = f} h') =
-      elim (serves_match step _ _ (Ok b) (Err f) m h h') [
-        | inl same ↦ absurd (let q = same.0 in cc)
-        | inr low ↦ absurd cc
-      ]
-  plays_match (follows place step rest) k d d' e e' ms ms' r r' m enough (goes {e = i} {b = b} {marks = us} h p) (goes {e = i'} {b = b'} {marks = vs} h' p') =
-      elim (serves_match step _ _ (Ok b) (Ok b') m h h') [
-        | inl same ↦
-            let c : b ≡ b' = (let q = same.0 in cc) in
-            let more = plays_match rest (k + 1) i i' e e' us vs r r' same.1 enough p p' in
-            (ap (λ (x : Bool). mark_of place step x ∷ us) c ∙ ap (λ (l : List StepMark). mark_of place step b' ∷ l) more.0, more.1, more.2)
-        | inr low ↦ absurd cc
-      ]
+  plays_everywhere script k d d' e e' ms ms' r r' m enough =
+      plays_match (Serves s) (Serves wide) Matched (λ f. f ≡ fault_of Capacity) serves_match script k d d' e e' ms ms' r r' m
+      (λ f g p q low. enough g p (q ∙ ap (λ (x : KeeperFault). Keeper x) low))
 
 pub ran_everywhere : (s : Setting) (t : Transition) (marks marks' : List StepMark) (r : Result ℕ SheetFault)
     → Ran s t marks marks' r → SameEverywhere s t marks marks' r
-ran_everywhere s t marks marks' r ran shut enough larger u written r' more shut' played =
-    let same = plays_match s larger more (script_of s.sheet s.groups (length marks)) 0 t.before u.before t.after u.after ran.written written r r' (inr (shut, shut')) enough ran.played played in
-    (ran.marked ∙ ap (λ (l : List StepMark). l ++ drop (length l) marks) same.0, same.1, same.2)
+ran_everywhere s t marks marks' r one =
+    record {
+      written = one.written;
+      marked = one.marked;
+      same = λ shut enough larger u others others' r' more shut' long other.
+          plays_everywhere s larger more (script_of s.sheet s.groups (length marks)) 0 t.before u.before t.after u.after
+          one.written other.written r r' (inr (shut, shut')) enough one.played
+          (subst (λ (k : ℕ). Plays (Serves (record s { capacity = larger })) (script_of s.sheet s.groups k) 0 u.before other.written r' u.after) long
+          other.played);
+    }

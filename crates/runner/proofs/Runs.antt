@@ -59,8 +59,8 @@ module _ (s : Setting) (before : Told) (marks₀ : List StepMark) where
     pub count : length written ≡ c.step
     pub marked : marks ≡ written ++ drop c.step marks₀
     pub onward : (ms : List StepMark) (r : Result ℕ SheetFault) (e : Told)
-        → Plays s (script_from turns s.sheet s.groups (length marks₀ - c.step) c.state c.at) c.step d ms r e
-        → Plays s (script_of s.sheet s.groups (length marks₀)) 0 before (written ++ ms) r e
+        → Plays (Serves s) (script_from turns s.sheet s.groups (length marks₀ - c.step) c.state c.at) c.step d ms r e
+        → Plays (Serves s) (script_of s.sheet s.groups (length marks₀)) 0 before (written ++ ms) r e
 
   -- after a turn the run goes on from the cursor, or has ended
   abbrev pub After : Cursor → Told → List StepMark → Result Cursor RunnerFault → Type 0
@@ -78,7 +78,7 @@ module _ (s : Setting) (before : Told) (marks₀ : List StepMark) where
         marked = refl;
         onward = λ ms r e p.
             rw (le-ltb LONGEST_SHEET (length s.sheet) short)
-            (subst (λ (x : ℕ). Plays s (script_from (suc (length s.sheet)) s.sheet s.groups x New 0) 0 before ms r e) (sub-zero (length marks₀)) p);
+            (subst (λ (x : ℕ). Plays (Serves s) (script_from (suc (length s.sheet)) s.sheet s.groups x New 0) 0 before ms r e) (sub-zero (length marks₀)) p);
       }
 
   script_turn : (turns room at : ℕ) (state : State) (next : Result Next RunnerFault) → at < length s.sheet → next_at s.sheet state at ≡ next
@@ -112,9 +112,9 @@ module _ (s : Setting) (before : Told) (marks₀ : List StepMark) where
           count = length-append w.written (m ∷ []) ∙ ap (λ (k : ℕ). k + 1) w.count;
           marked = ap (λ (l : List StepMark). set l c.step m) w.marked ∙ written_more w.written marks₀ c.step m w.count room;
           onward = λ ms r z p.
-              subst (λ (l : List StepMark). Plays s (script_of s.sheet s.groups (length marks₀)) 0 before l r z)
+              subst (λ (l : List StepMark). Plays (Serves s) (script_of s.sheet s.groups (length marks₀)) 0 before l r z)
               (sym (append_assoc w.written (m ∷ []) ms))
-              (w.onward (m ∷ ms) r z (subst (λ (x : Script). Plays s x c.step d (m ∷ ms) r z) (sym same) (goes serves p)));
+              (w.onward (m ∷ ms) r z (subst (λ (x : Script). Plays (Serves s) x c.step d (m ∷ ms) r z) (sym same) (goes serves p)));
         }
       where
         m : StepMark
@@ -136,7 +136,7 @@ module _ (s : Setting) (before : Told) (marks₀ : List StepMark) where
     -- the run ends here, with no mark more
     ending : (w : Running c d marks) (r : Result ℕ SheetFault) (next : Result Next RunnerFault) → next_at s.sheet c.state c.at ≡ next
         → marks' ≡ marks
-        → ((rest : ℕ → State → ℕ → Script) → Plays s (turn rest s.groups c.at next (length marks₀ - c.step)) c.step d [] r e)
+        → ((rest : ℕ → State → ℕ → Script) → Plays (Serves s) (turn rest s.groups c.at next (length marks₀ - c.step)) c.step d [] r e)
         → Ran s (record { before = before; after = e }) marks₀ marks' r
     ending w r next n same p = go w.turns refl
       where
@@ -148,9 +148,9 @@ module _ (s : Setting) (before : Told) (marks₀ : List StepMark) where
             = rw t (script_turn turns (length marks₀ - c.step) c.at c.state next here n) in
             record {
               written = w.written;
-              played = subst (λ (l : List StepMark). Plays s (script_of s.sheet s.groups (length marks₀)) 0 before l r e)
+              played = subst (λ (l : List StepMark). Plays (Serves s) (script_of s.sheet s.groups (length marks₀)) 0 before l r e)
                   (append-nil w.written)
-                  (w.onward [] r e (subst (λ (x : Script). Plays s x c.step d [] r e) (sym script) (p (script_from turns s.sheet s.groups))));
+                  (w.onward [] r e (subst (λ (x : Script). Plays (Serves s) x c.step d [] r e) (sym script) (p (script_from turns s.sheet s.groups))));
               marked = same ∙ w.marked ∙ ap (λ (k : ℕ). w.written ++ drop k marks₀) (sym w.count);
             }
 
@@ -199,7 +199,7 @@ module _ (s : Setting) (before : Told) (marks₀ : List StepMark) where
       → Ran s (record { before = before; after = d }) marks₀ marks (outcome_in c.state c.step c.at)
   runs_end c d marks w past = go w.turns refl
     where
-      closes : (state : State) → Plays s (closing state c.at) c.step d [] (outcome_in state c.step c.at) d
+      closes : (state : State) → Plays (Serves s) (closing state c.at) c.step d [] (outcome_in state c.step c.at) d
       closes New = breaks
       closes Opened = breaks
       closes Ended = ends
@@ -213,10 +213,10 @@ module _ (s : Setting) (before : Told) (marks₀ : List StepMark) where
           rw t (script_end turns (length marks₀ - c.step) c.at c.state past ∙ ap (closing c.state) same) in
           record {
             written = w.written;
-            played = subst (λ (l : List StepMark). Plays s (script_of s.sheet s.groups (length marks₀)) 0 before l (outcome_in c.state c.step c.at) d)
+            played = subst (λ (l : List StepMark). Plays (Serves s) (script_of s.sheet s.groups (length marks₀)) 0 before l (outcome_in c.state c.step c.at) d)
                 (append-nil w.written)
                 (w.onward [] (outcome_in c.state c.step c.at) d
-                (subst (λ (x : Script). Plays s x c.step d [] (outcome_in c.state c.step c.at) d) (sym script) (closes c.state)));
+                (subst (λ (x : Script). Plays (Serves s) x c.step d [] (outcome_in c.state c.step c.at) d) (sym script) (closes c.state)));
             marked = w.marked ∙ ap (λ (k : ℕ). w.written ++ drop k marks₀) (sym w.count);
           }
 

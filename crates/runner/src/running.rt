@@ -2,7 +2,7 @@
 ghost use Rattle.std.specs.Prelude.{◌≡◌, ◌≤◌, length};
 ghost use Rattle.roll.specs.Views.{loan_of, slots, used_in};
 ghost use Rattle.sheet.specs.declared.steps.TheConstants.{LONGEST_SHEET};
-ghost use Rattle.runner.specs.Meaning.{SameEverywhere};
+ghost use Rattle.runner.specs.Meaning.{SameEverywhere, OneMeaning, AsMeant};
 ghost use Rattle.runner.specs.Playing.{Ran};
 ghost use Rattle.runner.specs.Settings.{setting_of};
 ghost use Rattle.runner.specs.Turning.{outcome_of};
@@ -26,7 +26,7 @@ pub struct WorkLists<'a> {
 }
 
 /// Runs a sheet: the number of its steps, or the fault at which it stops.
-#[tactic(auto, using(crate::proofs::Runs::long_sheet_ran, crate::proofs::Runs::ran_over, crate::proofs::Meanings::ran_everywhere))]
+#[tactic(auto, using(crate::proofs::Runs::long_sheet_ran, crate::proofs::Runs::ran_over, crate::proofs::Meanings::ran_everywhere, crate::proofs::Settled::ran_as_meant))]
 pub fn run<K: Keeper>(
     keeper: &mut K,
     sheet: &[u8],
@@ -36,6 +36,12 @@ pub fn run<K: Keeper>(
         (record { before = K.Keeper.told keeper.old; after = K.Keeper.told keeper.new })
         lists.old.marks.now lists.new.marks.now result }
     ensures same_everywhere { SameEverywhere
+        (setting_of (K.Keeper.capacity keeper.old) sheet.now lists.old)
+        (record { before = K.Keeper.told keeper.old; after = K.Keeper.told keeper.new })
+        lists.old.marks.now lists.new.marks.now result }
+    ensures one_meaning { OneMeaning (length lists.old.scratch.now) (length lists.old.groups.now)
+        (length lists.old.marks.now) sheet.now }
+    ensures as_meant { AsMeant
         (setting_of (K.Keeper.capacity keeper.old) sheet.now lists.old)
         (record { before = K.Keeper.told keeper.old; after = K.Keeper.told keeper.new })
         lists.old.marks.now lists.new.marks.now result }

@@ -1,7 +1,18 @@
 use Rattle.std.proofs.Common.{rules}
 use Rattle.runner.proofs.Meanings.{ran_everywhere}
 use Rattle.runner.proofs.Runs.{ran_over}
+use Rattle.runner.proofs.Settled.{one_meaning, ran_as_meant}
 use Rattle.runner.proofs.running.run.Goals as goal
 
 pub returns-clause-same_everywhere : goal.returns-clause-same_everywhere
 returns-clause-same_everywhere g c = ran_everywhere _ _ _ _ _ (ran_over c.over-marks.ensures.same (search rules) c.run_steps.ensures.ran)
+
+pub returns-clause-one_meaning : goal.returns-clause-one_meaning
+returns-clause-one_meaning g c = one_meaning _ _ _ _
+
+pub returns-then-sheet-gt-LONGEST_SHEET-clause-one_meaning :
+    goal.returns-then-sheet-gt-LONGEST_SHEET-clause-one_meaning
+returns-then-sheet-gt-LONGEST_SHEET-clause-one_meaning g c = one_meaning _ _ _ _
+
+pub returns-clause-as_meant : goal.returns-clause-as_meant
+returns-clause-as_meant g c = ran_as_meant _ _ _ _ _ (ran_over c.over-marks.ensures.same (search rules) c.run_steps.ensures.ran)
