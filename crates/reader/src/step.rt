@@ -2,7 +2,7 @@
 ghost use Rattle.std.specs.Prelude.{◌≡◌, ◌<◌, ◌≤◌, length, Ok, Err, IfOk, IfErr};
 ghost use Rattle.sheet.specs.Steps.{LiesOn};
 ghost use Rattle.reader.specs.Heads.{head_at, head_of, sheet_of};
-ghost use Rattle.reader.specs.Payloads.{open_of, bind_of, join_of, forget_of, ask_of, end_of, step_of};
+ghost use Rattle.reader.specs.Payloads.{open_of, bind_of, join_of, forget_of, ask_of, end_of, step_of, SumsTerm};
 
 use crate::record::SheetRecord;
 use domain::change::Change;
@@ -46,10 +46,13 @@ impl<'a> StepRecord<'a> {
         self.record.frame.end
     }
 
-    /// The step that the payload holds: first its length is tested, then it is read from left to right.
+    /// The step that the payload holds: first its length is tested, then it is read from left to right. The term
+    /// of a bind says what occurs in the tree that the payload holds.
+    #[tactic(auto, using(crate::proofs::Occurrences::bind_sums))]
     pub fn step(&self) -> Result<Step, ReaderFault>
         ensures value { result ≡ step_of (sheet_of self.now) (head_of self.now) }
         ensures lies { IfOk result (LiesOn (sheet_of self.now)) }
+        ensures sums { IfOk result (SumsTerm (sheet_of self.now) (head_of self.now).frame) }
     {
         match self.kind {
             StepKind::Open => self.record.open(),
