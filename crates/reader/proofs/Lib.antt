@@ -1,3 +1,4 @@
 pub mod Arguments
 pub mod Copied
 pub mod Occurrences
+pub mod Faults

@@ -1,11 +1,17 @@
--- What a summary holds is what occurs in the tree.
-use Rattle.std.proofs.Common.{◌≡◌, ℕ, ◌+◌, ◌-◌, min, false, List, IfOk, Ok, Err, refl, add-zero, add_assoc, zero-add, arith}
+-- What a summary holds is what occurs in the tree, and so in a bind's step.
+use Rattle.std.proofs.Common.{◌≡◌, ℕ, ◌+◌, ◌-◌, ◌==◌, nat_lt, not, min, Bool, true, false, List, IfOk, Ok, Err, refl, sym, add-zero, add_assoc, zero-add, arith}
 use Rattle.std.specs.Int.{bit_at}
 use Rattle.std.proofs.lemmas.Bool.Decides.{nat_tests}
 use Rattle.std.proofs.lemmas.Nat.Bits.{bit_at_and, bit_at_or, bit_at-zero, bit_at-pow_same, bit_at-pow_other}
 use Rattle.domain.specs.declared.term.Term.{Term}
+use Rattle.domain.specs.declared.refusal.Refusal.{Refusal}
+use Rattle.domain.specs.declared.change.Change.TheVariants.{Bind}
+use Rattle.sheet.specs.declared.steps.Step.{Step}
+use Rattle.sheet.specs.declared.steps.Step.TheVariants.{Change}
 use Rattle.reader.specs.declared.record.Record.{Record}
-use Rattle.reader.specs.Reading.{Read}
+use Rattle.reader.specs.Reading.{Read, ◌>>=◌, refuse}
+use Rattle.reader.specs.Payloads.{bind_of, SumsTerm}
+use Rattle.reader.specs.Records.{record_at, payload, position_at}
 use Rattle.reader.specs.Trees.{tree_of, summed, term_of, SumsUp}
 use Rattle.reader.specs.declared.term.TheConstants.{DEEPEST}
 use Rattle.domain.specs.Terms.{Tree, Args, position, constant, compound, none, more, occurrences, occurrences_in, constant_term, beside, summary, gathered, is_position, Sums}
@@ -65,3 +71,28 @@ sums_read (Err e) = tt
 
 pub sums_up : (bytes : List ℕ) (r : Record) (read : Read Term) → read ≡ term_of bytes r → SumsUp bytes r read
 sums_up bytes r read e = rw e (sums_read (tree_of bytes DEEPEST r))
+
+-- what holds of all that may come after a test or after a part holds of the whole
+tested : {A : Type 0} (P : A → Type 0) (b : Bool) (e : Refusal) (place : ℕ) (later : Read A) → IfOk later P → IfOk (refuse b e place later) P
+tested P true e place later h = tt
+tested P false e place later h = h
+
+after : {A B : Type 0} (P : B → Type 0) (f : A → Read B) (read : Read A) → ((a : A) → read ≡ Ok a → IfOk (f a) P) → IfOk (read >>= f) P
+after P f (Ok a) h = h a refl
+after P f (Err e) h = tt
+
+-- a term that is read from the record at a place
+summed_at : (bytes : List ℕ) (r : Record) (x : ℕ) (inner : Record) (t : Term) → record_at bytes (r.start + 1) r.end ≡ Ok inner → term_of bytes inner ≡ Ok t → SumsTerm bytes r (Change (Bind x t))
+summed_at bytes r x inner t is read =
+    let held = sums_up bytes inner (Ok t) (sym read) in (held.0, rw is held.1, held.2)
+
+bind_of_sums : (bytes : List ℕ) (r : Record) → IfOk (bind_of bytes r) (SumsTerm bytes r)
+bind_of_sums bytes r =
+    tested (SumsTerm bytes r) (nat_lt (payload r) 5) _ _ _
+    (after (SumsTerm bytes r) _ (position_at bytes r r.start) (λ x _.
+    after (SumsTerm bytes r) _ (record_at bytes (r.start + 1) r.end) (λ inner is.
+    after (SumsTerm bytes r) _ (term_of bytes inner) (λ t read.
+    tested (SumsTerm bytes r) (not (inner.end == r.end)) _ _ (Ok (Change (Bind x t))) (summed_at bytes r x inner t is read)))))
+
+pub bind_sums : (bytes : List ℕ) (r : Record) (read : Read Step) → read ≡ bind_of bytes r → IfOk read (SumsTerm bytes r)
+bind_sums bytes r read e = rw e (bind_of_sums bytes r)

@@ -1,18 +1,22 @@
 -- The step that the payload of a record holds, or the first fault.
-use Rattle.std.specs.Prelude.{ℕ, ◌+◌, ◌-◌, ◌/◌, ◌%◌, if◌then◌else◌, not, ◌||◌, List, Ok, ◌==◌, nat_lt}
+use Rattle.std.specs.Prelude.{◌≡◌, ℕ, ◌+◌, ◌-◌, ◌/◌, ◌%◌, if◌then◌else◌, not, ◌||◌, List, Ok, ◌==◌, nat_lt}
+use Rattle.domain.specs.Terms.{Tree, Sums}
+use Rattle.domain.specs.declared.change.Change.{Change}
 use Rattle.domain.specs.declared.change.Change.TheVariants as change
 use Rattle.domain.specs.declared.refusal.Refusal.TheVariants.{Length, Letter}
 use Rattle.keeper.specs.declared.questions.Question.{Question}
 use Rattle.keeper.specs.declared.questions.Question.TheVariants.{Ground, Free, Linear, Pair}
 use Rattle.sheet.specs.declared.kind.StepKind.{StepKind}
 use Rattle.sheet.specs.declared.kind.StepKind.TheVariants.{Open, Bind, Join, Forget, Ask, End}
+use Rattle.sheet.specs.declared.steps.Span.{Span}
 use Rattle.sheet.specs.declared.steps.Step.{Step}
 use Rattle.sheet.specs.declared.steps.Step.TheVariants as step
 use Rattle.reader.specs.Reading.{Read, ◌>>=◌, fault, refuse}
 use Rattle.reader.specs.Records.{byte_at, pair_at, record_at, payload, position_at}
 use Rattle.reader.specs.Heads.{Head}
-use Rattle.reader.specs.Trees.{term_of}
+use Rattle.reader.specs.Trees.{term_of, tree_at}
 use Rattle.reader.specs.declared.record.Record.{Record}
+use Rattle.reader.specs.declared.term.TheConstants.{DEEPEST}
 
 -- the position after the letter, and nothing more
 abbrev pub one_of : List ℕ → Record → Read ℕ
@@ -81,3 +85,17 @@ payload_of bytes r End = end_of r
 
 abbrev pub step_of : List ℕ → Head → Read Step
 step_of bytes head = payload_of bytes head.frame head.kind
+
+-- the term of a bind sums up the tree that the payload holds after the position
+abbrev pub SumsIn : List ℕ → Record → Change Span → Type 0
+SumsIn bytes r (change.Bind x t) =
+    (tree : Tree) × (tree_at bytes DEEPEST (r.start + 1) r.end ≡ Ok tree) × Sums tree t
+SumsIn bytes r (change.Join other) = Unit {0}
+SumsIn bytes r (change.Forget m) = Unit {0}
+
+-- the law of a step that is read
+abbrev pub SumsTerm : List ℕ → Record → Step → Type 0
+SumsTerm bytes r (step.Open n) = Unit {0}
+SumsTerm bytes r (step.Change c) = SumsIn bytes r c
+SumsTerm bytes r (step.Ask q) = Unit {0}
+SumsTerm bytes r step.End = Unit {0}

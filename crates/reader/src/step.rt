@@ -1,8 +1,10 @@
 //! The record of a step: its head, and the step that its payload holds.
 ghost use Rattle.std.specs.Prelude.{◌≡◌, ◌<◌, ◌≤◌, length, Ok, Err, IfOk, IfErr};
+ghost use Rattle.domain.specs.declared.refusal.Layer.TheVariants.{Reader};
+ghost use Rattle.sheet.specs.Faults.{CanRefuse};
 ghost use Rattle.sheet.specs.Steps.{LiesOn};
 ghost use Rattle.reader.specs.Heads.{head_at, head_of, sheet_of};
-ghost use Rattle.reader.specs.Payloads.{open_of, bind_of, join_of, forget_of, ask_of, end_of, step_of};
+ghost use Rattle.reader.specs.Payloads.{open_of, bind_of, join_of, forget_of, ask_of, end_of, step_of, SumsTerm};
 
 use crate::record::SheetRecord;
 use domain::change::Change;
@@ -20,9 +22,11 @@ pub struct StepRecord<'a> {
 impl<'a> StepRecord<'a> {
     /// Reads the head of the record at a place of the sheet: the record must lie on the sheet, and its kind be
     /// a step's.
+    #[tactic(auto, using(crate::proofs::Faults::record_refuses, crate::proofs::Faults::kind_refuses))]
     pub fn read(sheet: &'a [u8], at: usize) -> Result<StepRecord<'a>, ReaderFault>
         ensures head { IfOk result (λ r. Ok (head_of r) ≡ head_at sheet.now at) }
         ensures fault { IfErr result (λ f. Err f ≡ head_at sheet.now at) }
+        ensures refuses { IfErr result (λ f. CanRefuse Reader f.refusal) }
         ensures onward { IfOk result (λ r. at < (head_of r).frame.end) }
         ensures inside { IfOk result (λ r. (head_of r).frame.end ≤ length sheet.now) }
         ensures same_sheet { IfOk result (λ r. sheet_of r ≡ sheet.now) }
@@ -46,10 +50,14 @@ impl<'a> StepRecord<'a> {
         self.record.frame.end
     }
 
-    /// The step that the payload holds: first its length is tested, then it is read from left to right.
+    /// The step that the payload holds: first its length is tested, then it is read from left to right. The term
+    /// of a bind says what occurs in the tree that the payload holds.
+    #[tactic(auto, using(crate::proofs::Occurrences::bind_sums, crate::proofs::Faults::step_refuses, crate::proofs::Faults::an_open, crate::proofs::Faults::a_bind, crate::proofs::Faults::a_join, crate::proofs::Faults::a_forget, crate::proofs::Faults::an_ask, crate::proofs::Faults::an_end))]
     pub fn step(&self) -> Result<Step, ReaderFault>
         ensures value { result ≡ step_of (sheet_of self.now) (head_of self.now) }
         ensures lies { IfOk result (LiesOn (sheet_of self.now)) }
+        ensures refuses { IfErr result (λ f. CanRefuse Reader f.refusal) }
+        ensures sums { IfOk result (SumsTerm (sheet_of self.now) (head_of self.now).frame) }
     {
         match self.kind {
             StepKind::Open => self.record.open(),

@@ -1,10 +1,12 @@
 -- Faults on a sheet: number, layer, step and place.
-use Rattle.std.specs.Prelude.{◌≡◌, ℕ, Bool}
+use Rattle.std.specs.Prelude.{◌≡◌, ℕ, Bool, Some}
 use Rattle.std.specs.Ordering.{on}
 use Rattle.sheet.specs.contracts.fault.RefusedPartialEq.TheImpl as refused_eq
-use Rattle.domain.specs.Refusals.{number_of}
+use Rattle.domain.specs.Refusals.{number_of, layer_of}
 use Rattle.domain.specs.declared.refusal.Layer.{Layer}
 use Rattle.domain.specs.declared.refusal.Layer.TheVariants as layer
+use Rattle.domain.specs.declared.refusal.Refusal.{Refusal}
+use Rattle.domain.specs.declared.refusal.Refusal.TheVariants.{Order, Position, Room}
 use Rattle.sheet.specs.declared.fault.Refused.{Refused}
 use Rattle.sheet.specs.declared.fault.RunnerFault.{RunnerFault}
 use Rattle.sheet.specs.declared.fault.RunnerFault.TheVariants.{Reader, Runner, Keeper}
@@ -43,3 +45,14 @@ pub record SameFault (f g : SheetFault) : Type 0 where
 -- the test of that, which `==` computes
 abbrev pub fault_eq : SheetFault → SheetFault → Bool
 fault_eq = on refused_of (refused_eq.ghosts).eq
+
+-- Which layer can give which refusal: that of the table where one layer alone gives it, and of each of the
+-- other three refusals two.
+pub data CanRefuse : Layer → Refusal → Type 0 where
+  alone : {l : Layer} {e : Refusal} → layer_of e ≡ Some l → CanRefuse l e
+  order_of_steps : CanRefuse layer.Runner Order
+  order_of_calls : CanRefuse layer.Keeper Order
+  position_read : CanRefuse layer.Reader Position
+  position_in_call : CanRefuse layer.Keeper Position
+  room_in_lists : CanRefuse layer.Runner Room
+  room_in_call : CanRefuse layer.Keeper Room

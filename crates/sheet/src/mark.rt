@@ -1,6 +1,6 @@
 //! The marks of steps.
 ghost use Rattle.std.specs.Prelude.{◌≡◌};
-ghost use Rattle.sheet.specs.Marks.{blank_mark};
+ghost use Rattle.sheet.specs.Marks.{answer_number, blank_mark};
 
 use crate::kind::StepKind;
 use crate::steps::LONGEST_SHEET;
@@ -30,6 +30,13 @@ impl StepMark {
             kind: StepKind::End,
             answer: false,
         }
+    }
+
+    /// The answer as a number: 1 for yes, 0 for no.
+    pub fn number(&self) -> u8
+        ensures { result ≡ answer_number self.now.answer }
+    {
+        u8::from(self.answer)
     }
 }
 
