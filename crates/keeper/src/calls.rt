@@ -1,10 +1,10 @@
 //! The keeper: anything that tells a number of positions (0 until it is opened), a description and a
 //! capacity, and answers the calls below.
-ghost use Rattle.std.specs.Prelude.{◌≡◌, ℕ, length, Result};
+ghost use Rattle.std.specs.Prelude.{◌≡◌, ℕ, ◌<◌, length, Result};
 ghost use Rattle.domain.specs.Changes.{Makes, lent_change, lent_listing};
 ghost use Rattle.domain.specs.Groups.{IsGround, Share};
 ghost use Rattle.domain.specs.Opening.{New};
-ghost use Rattle.domain.specs.Told.{Told, Group, IsFree, IsLinear};
+ghost use Rattle.domain.specs.Told.{Told, Group, IsFree, IsLinear, Lawful};
 ghost use Rattle.keeper.specs.Calls.{Opens, ChangesBy, Writes, Answers, ask_refusal, pair_refusal};
 ghost use Rattle.keeper.specs.declared.fault.KeeperFault.{KeeperFault};
 
@@ -105,4 +105,7 @@ pub trait Keeper {
     /// Puts the core at the start of a list, whose other entries stay.
     fn write_out(&self, list: &mut [u16]) -> Result<WrittenOut, KeeperFault>
         ensures { Writes (told self.now) list.old list.new result };
+
+    // an opened keeper tells a lawful description
+    ghost lawful: { (k : Self) → 0 < (told k).n → Lawful (told k) };
 }

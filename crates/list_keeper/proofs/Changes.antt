@@ -1,8 +1,8 @@
 -- The changes of a list keeper: from the list to a table, by the rule, and to the core of what the rule gives.
-use Rattle.std.proofs.Common.{◌≡◌, ℕ, ◌/◌, ◌^◌, ◌<◌, ◌≤◌, Bool, not, eqb, List, ◌++◌, false, is_some, length, take, Contains, Some, None, Ok, Err, Decides, Option, Result, sym, refl, ap, ◌∙◌, subst, arith}
+use Rattle.std.proofs.Common.{◌≡◌, ℕ, ◌/◌, ◌^◌, ◌<◌, ◌≤◌, Bool, not, eqb, List, ◌++◌, true, false, is_some, length, take, Contains, Some, None, Ok, Err, Decides, Option, Result, sym, refl, ap, ◌∙◌, subst, arith}
+use Rattle.std.specs.Option.{ForSome}
 use Rattle.std.proofs.lemmas.Bool.{ne_eqb, false≢true}
-use Rattle.coverage.proofs.Cover.{same_turned, same_trans, same_groups}
-use Rattle.coverage.proofs.CoreLeast.{core_same, dec_group}
+use Rattle.coverage.proofs.Cover.{same_groups}
 use Rattle.coverage.proofs.ChangeLaws.{one_told}
 use Rattle.domain.specs.Changes.{Makes, change_tests}
 use Rattle.domain.specs.Coverage.{Alike, Core}
@@ -18,11 +18,11 @@ use Rattle.domain.specs.declared.refusal.Refusal.TheVariants.{Order}
 use Rattle.domain.proofs.Bits.{in_single, single_in}
 use Rattle.domain.proofs.Tables.{room_for}
 use Rattle.domain.proofs.Laws.{group_of, of_group}
-use Rattle.keeper.specs.Calls.{Changes, ChangesBy, Exactly, Opens}
+use Rattle.keeper.specs.Calls.{Changes, ChangesBy, Exactly, Opens, fault_of}
 use Rattle.keeper.specs.declared.fault.KeeperFault.{KeeperFault}
-use Rattle.list_keeper.proofs.Keeping.{own_range}
+use Rattle.list_keeper.proofs.Keeping.{tells_alike}
 use Rattle.list_keeper.proofs.Listing.{group_entry}
-use Rattle.list_keeper.specs.Keeping.{Kept, TellsCore, Stores}
+use Rattle.list_keeper.specs.Keeping.{Kept, Stores}
 use Rattle.list_keeper.specs.Tells.{tells, told_by}
 use Rattle.list_keeper.specs.declared.head.Head.{Head}
 
@@ -33,13 +33,13 @@ module _ (head : Head) (list table : List ℕ) (kept : Kept head list) (room : b
   in_list : (g : ℕ) → Group (told_with head.outline table) g → Group (tells head list) g
   in_list g t =
       let r = of_group head.outline.positions table g t in
-      (group_entry head list g).1 ((holds g (room_for head.outline.positions g (length table) kept.few r.1 room)).0 r.2)
+      (group_entry head list g).1 ((holds g (room_for head.outline.positions g (length table) kept.lawful.few_positions r.1 room)).0 r.2)
 
   in_table : (g : ℕ) → Group (tells head list) g → Group (told_with head.outline table) g
   in_table g t =
-      let r = own_range head list kept g t in
+      let r = kept.lawful.in_range g t in
       group_of head.outline.positions table g r.0 r.1
-      ((holds g (room_for head.outline.positions g (length table) kept.few r.1 room)).1 ((group_entry head list g).0 t))
+      ((holds g (room_for head.outline.positions g (length table) kept.lawful.few_positions r.1 room)).1 ((group_entry head list g).0 t))
 
   pub loaded_told : told_with head.outline table ≡ tells head list
   loaded_told =
@@ -51,14 +51,6 @@ opened_told : (n : ℕ) (o : Option Refusal) → 0 < n → pick (not (not (eqb n
 opened_told n o some = ap (λ (b : Bool). pick (not (not b)) Order o) (ne_eqb n 0 (λ e. omega arith))
 
 -- ---- what is stored
-
-pub tells_alike : {e after : Told} → TellsCore e after → Alike e after
-tells_alike {e} t =
-    record {
-      positions = t.positions;
-      marks = t.marks;
-      cover = same_trans (same_turned (core_same (dec_group e))) (same_groups t.all t.only);
-    }
 
 -- each group of a new description is a core group
 new_core : {n : ℕ} {e : Told} → New n e → (g : ℕ) → Group e g → Core (Group e) g
@@ -76,6 +68,13 @@ new_core {n} {e} new g t =
           let u = new.groups_only h k in
           ne (u.only ∙ ap (λ (x : ℕ). 2 ^ x) (sym (single_in (subst (λ (x : ℕ). In s.place x) u.only i))) ∙ sym s.only);
     }
+
+pub opens_again : (n scratch capacity : ℕ) (head : Option Head) (list : List ℕ) → ForSome head (λ h. Kept h list) → is_some head ≡ true
+    → (f : KeeperFault) → f ≡ fault_of Order
+    → Opens capacity n scratch (told_by head list) (told_by head list) (Err f)
+opens_again n scratch capacity None list kept is f order = absurd (false≢true is)
+opens_again n scratch capacity (Some head) list kept is f order =
+    rw (ne_eqb head.outline.positions 0 (λ e. let some = (kept head refl).lawful.some_positions in omega arith)) (ap Err order, refl)
 
 pub opens_stored : (n scratch : ℕ) (e : Told) → New n e → first_of (open_tests n ++ room_tests n scratch) ≡ None → (capacity : ℕ) (head : Option Head)
     (list : List ℕ) (after : Told) → is_some head ≡ false → (r : Result (Unit {0}) KeeperFault) → Stores e capacity (told_by head list) after r

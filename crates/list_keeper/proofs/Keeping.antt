@@ -1,29 +1,29 @@
 -- A list that holds the core of a description.
-use Rattle.std.proofs.Common.{◌≡◌, ℕ, ◌^◌, ◌<◌, ◌≤◌, true, List, length, get_or, take, drop, Contains, None, Ok, Err, Option, Result, sym, refl, ap, ◌∙◌, subst, arith, length-take-le, take_at}
+use Rattle.std.proofs.Common.{◌≡◌, ℕ, ◌<◌, ◌≤◌, List, length, get_or, take, drop, Contains, Some, None, Ok, Err, Option, Result, sym, refl, ap, ◌∙◌, subst, arith, length-take-le, take_at}
+use Rattle.std.specs.List.Sorted.{IsStrictlyIncreasing}
 use Rattle.std.specs.Option.{ForSome, ForNone}
-use Rattle.std.specs.Prelude.{MatchResult, IsErrAnd}
+use Rattle.std.specs.Prelude.{IfOk, MatchResult, IsErrAnd}
 use Rattle.coverage.specs.Listing.{FillsCore, WritesCore, WritesOr}
-use Rattle.coverage.proofs.Cover.{same_turned}
+use Rattle.coverage.proofs.Cover.{same_turned, same_trans, same_groups}
 use Rattle.coverage.proofs.CoreLeast.{core_same, core_kept, dec_group}
 use Rattle.coverage.proofs.ExistsCore.{dec_core}
+use Rattle.coverage.proofs.Places.{ground_kept}
 use Rattle.coverage.proofs.ListedCores.{fills_inside, fills_given}
 use Rattle.coverage.proofs.Searching.{dec_stable}
-use Rattle.domain.specs.Coverage.{Core, CoreList, CoreFits}
+use Rattle.domain.specs.Coverage.{Alike, Core, CoreList, CoreFits}
+use Rattle.domain.specs.Groups.{IsGround}
 use Rattle.domain.specs.Refusals.{first_of}
-use Rattle.domain.specs.Requests.{ascend, open_tests}
+use Rattle.domain.specs.Requests.{open_tests}
 use Rattle.domain.specs.Tables.{told_with}
-use Rattle.domain.specs.Told.{Told, Group}
+use Rattle.domain.specs.Told.{Told, Group, Lawful}
 use Rattle.domain.specs.declared.limits.TheConstants.{MOST_POSITIONS}
 use Rattle.domain.specs.declared.outline.Outline.{Outline}
 use Rattle.domain.specs.declared.refusal.Refusal.{Refusal}
 use Rattle.domain.specs.declared.refusal.Refusal.TheVariants.{Room}
-use Rattle.domain.proofs.Joining.{ascend_range}
-use Rattle.domain.proofs.Laws.{of_group}
-use Rattle.domain.proofs.Lists.{contains, listed, above_increasing, core_above}
 use Rattle.domain.proofs.Mapped.{was_ok}
 use Rattle.rules.proofs.Lending.{counted_told}
-use Rattle.list_keeper.proofs.Listing.{group_entry, ascend_above, above_ascend}
-use Rattle.list_keeper.specs.Keeping.{Kept, Stores, LaysOut}
+use Rattle.list_keeper.proofs.Listing.{group_entry}
+use Rattle.list_keeper.specs.Keeping.{Kept, Stores, TellsCore, LaysOut}
 use Rattle.list_keeper.specs.ListKeepers.{KeepsList}
 use Rattle.list_keeper.specs.Tells.{tells}
 use Rattle.list_keeper.specs.declared.ListKeeper.{ListKeeper}
@@ -51,12 +51,8 @@ module _ (head : Head) (list : List ℕ) (kept : Kept head list) where
             λ g l.
             dec_stable (dec_core (dec_group (tells head list)) g) (kept.core g ((group_entry head list g).1 l));
         all = λ g c. (group_entry head list g).0 c.told;
-        ascending = above_increasing (ascend_above head.outline.positions 0 (take head.count list) kept.rising);
+        ascending = kept.rising;
       }
-
-  pub own_range : (g : ℕ) → Group (tells head list) g → (0 < g) × (g < 2 ^ head.outline.positions)
-  own_range g t =
-      ascend_range head.outline.positions 0 (take head.count list) kept.rising g (listed (take head.count list) g ((group_entry head list g).0 t))
 
   -- so the list lays it out
   pub laid_out : LaysOut (tells head list) list
@@ -69,6 +65,12 @@ module _ (head : Head) (list : List ℕ) (kept : Kept head list) where
         zero = λ i h. kept.cleared i (omega arith);
       }
 
+-- a head that is held keeps the rules with the list
+pub held_kept : {E : Type 0} (held : Option Head) (list : List ℕ) (r : Result Head E) → IfOk r (λ h. held ≡ Some h) → ForSome held (λ h. Kept h list)
+    → IfOk r (λ h. Kept h list)
+held_kept held list (Ok h) is kept = kept h is
+held_kept held list (Err e) is kept = is
+
 -- a call that kept the list kept it as its contract says
 pub keeps_list : (before after : ListKeeper) → after.list.ghost_name ≡ before.list.ghost_name
     → length after.list.now ≡ length before.list.now → ForNone after.head (after.list.now ≡ before.list.now)
@@ -78,7 +80,33 @@ keeps_list before after lent long untouched kept =
 
 -- ---- a core that is stored
 
-module _ (outline : Outline) (table list list' list'' : List ℕ) (count : ℕ) (some : 0 < outline.positions) (few : outline.positions ≤ MOST_POSITIONS)
+-- what has the core alone is alike with it, and as lawful
+pub tells_alike : {e after : Told} → TellsCore e after → Alike e after
+tells_alike {e} t =
+    record {
+      positions = t.positions;
+      marks = t.marks;
+      cover = same_trans (same_turned (core_same (dec_group e))) (same_groups t.all t.only);
+    }
+
+core_lawful : {e after : Told} → Lawful e → TellsCore e after → Lawful after
+core_lawful {e} {after} law t =
+    record {
+      some_positions = rw (← t.positions) law.some_positions;
+      few_positions = rw (← t.positions) law.few_positions;
+      in_range = λ g h. rw (← t.positions) (law.in_range g (t.only g h).told);
+      marks = record {
+        linear_in_range = rw (← t.marks, ← t.positions) law.marks.linear_in_range;
+        free_is_linear = rw (← t.marks) law.marks.free_is_linear;
+        ground_is_linear = λ p g. rw (← t.marks) (law.marks.ground_is_linear p (was p g));
+        free_is_not_ground = λ p i g. law.marks.free_is_not_ground p (rw t.marks i) (was p g);
+      };
+    }
+  where
+    was : (p : ℕ) → IsGround after.n (Group after) p → IsGround e.n (Group e) p
+    was p g = ground_kept (sym t.positions) (same_turned (tells_alike t).cover) g
+
+module _ (outline : Outline) (table list list' list'' : List ℕ) (count : ℕ) (lawful : Lawful (told_with outline table))
     (fills : FillsCore (Group (told_with outline table)) list list' count) (same : length list' ≡ length list) (long : length list'' ≡ length list)
     (front : take count list'' ≡ take count list') (zero' : (i : ℕ) → count ≤ i → get_or list'' i 0 ≡ 0) where
   -- the new head
@@ -101,16 +129,15 @@ module _ (outline : Outline) (table list list' list'' : List ℕ) (count : ℕ) 
   own g t other =
       other (core_as of_core is_core_lem (core_kept (same_turned (core_same (dec_group (told_with outline table)))) (is_core_lem g t)))
 
+  told_core : TellsCore (told_with outline table) (tells new_head list'')
+  told_core = record { positions = refl; marks = refl; only = is_core_lem; all = of_core }
+
   stored_kept : Kept new_head list''
   stored_kept =
       record {
-        some = some;
-        few = few;
+        lawful = core_lawful lawful told_core;
         inside = (let h = fills_inside list list' count fills same in omega arith);
-        rising =
-            subst (λ (l : List ℕ). ascend outline.positions 0 l ≡ true) (sym groups_are)
-            (above_ascend outline.positions 0 fills.groups (core_above fills.core)
-            (λ g l. (of_group outline.positions table g (fills.core.only g (contains l)).told).1));
+        rising = subst (λ (l : List ℕ). IsStrictlyIncreasing l) (sym groups_are) fills.core.ascending;
         core = own;
         cleared = zero';
       }
@@ -124,7 +151,7 @@ module _ (outline : Outline) (table list list' list'' : List ℕ) (count : ℕ) 
         short = (let h = fills_inside list list' count fills same in let k = fills.counted in omega arith);
         holds = fills.core.all;
       },
-      record { positions = refl; marks = refl; only = is_core_lem; all = of_core },
+      told_core,
     ),
   )
 

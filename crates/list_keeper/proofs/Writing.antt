@@ -21,7 +21,7 @@ module _ (held : Option Head) (head : Head) (list : List ℕ) (is : held ≡ Som
   written out' room groups same at_start =
       subst (λ (o : Option Head). Writes (told_by o list) out out' (Ok (record { count = head.count; marks = head.outline.marks })))
       (sym is) (
-        ap not (ne_eqb head.outline.positions 0 (λ e. let some = kept.some in omega arith)),
+        ap not (ne_eqb head.outline.positions 0 (λ e. let some = kept.lawful.some_positions in omega arith)),
         refl,
         (
           take head.count list,
@@ -37,7 +37,7 @@ module _ (held : Option Head) (head : Head) (list : List ℕ) (is : held ≡ Som
       subst (λ (o : Option Head). Writes (told_by o list) out out (Err f)) (sym is) (
         refl,
         inr (
-          ap not (ne_eqb head.outline.positions 0 (λ e. let some = kept.some in omega arith)),
+          ap not (ne_eqb head.outline.positions 0 (λ e. let some = kept.lawful.some_positions in omega arith)),
           room,
           λ fits. omega (arith, long, fits_count (list_counted (own_core head list kept)) fits, few),
         ),

@@ -1,9 +1,8 @@
 -- What the inner functions of a list keeper promise.
-use Rattle.std.specs.Prelude.{◌≡◌, ℕ, ◌<◌, ◌≤◌, true, List, length, take, Ok, Err, Result, slice_index}
+use Rattle.std.specs.Prelude.{◌≡◌, ℕ, ◌≤◌, List, length, take, Ok, Err, Result, slice_index}
+use Rattle.std.specs.List.Sorted.{IsStrictlyIncreasing}
 use Rattle.domain.specs.Coverage.{Core, CoreFits, CoreList}
-use Rattle.domain.specs.Requests.{ascend}
-use Rattle.domain.specs.Told.{Told, Group}
-use Rattle.domain.specs.declared.limits.TheConstants.{MOST_POSITIONS}
+use Rattle.domain.specs.Told.{Told, Group, Lawful}
 use Rattle.domain.specs.declared.refusal.Refusal.TheVariants.{Capacity}
 use Rattle.keeper.specs.Calls.{fault_of}
 use Rattle.keeper.specs.declared.fault.KeeperFault.{KeeperFault}
@@ -12,11 +11,9 @@ use Rattle.list_keeper.specs.declared.head.Head.{Head}
 
 -- the rules of an opened keeper hold of a head and a list
 pub record Kept (head : Head) (list : List ℕ) : Type 0 where
-  pub some : 0 < head.outline.positions
-  pub few : head.outline.positions ≤ MOST_POSITIONS
+  pub lawful : Lawful (tells head list)
   pub inside : head.count ≤ length list
-  -- the groups ascend, and are masks of so many positions
-  pub rising : ascend head.outline.positions 0 (take head.count list) ≡ true
+  pub rising : IsStrictlyIncreasing (take head.count list)
   -- no group is anything but a core group: twice denied, since an invariant has one proof at most, and that
   -- of a core group names one of several pairs
   pub core : (g : ℕ) → Group (tells head list) g → (Core (Group (tells head list)) g → ⊥) → ⊥

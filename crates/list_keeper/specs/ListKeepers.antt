@@ -1,15 +1,25 @@
 -- What a list keeper shows of itself.
-use Rattle.std.specs.Prelude.{◌≡◌, ℕ, List, length}
+use native.Mathlib.Nat.{lt_irrefl}
+use Rattle.std.specs.Prelude.{◌≡◌, ℕ, ◌<◌, List, length, Some, None, Option, refl}
 use Rattle.std.specs.Borrow.{MutBor}
 use Rattle.std.specs.Option.{ForSome, ForNone}
-use Rattle.domain.specs.Told.{Told}
-use Rattle.list_keeper.specs.Keeping.{LaysOut}
+use Rattle.domain.specs.Told.{Told, Lawful}
+use Rattle.list_keeper.specs.Keeping.{Kept, LaysOut}
 use Rattle.list_keeper.specs.Tells.{tells, told_by}
 use Rattle.list_keeper.specs.declared.ListKeeper.{ListKeeper}
+use Rattle.list_keeper.specs.declared.head.Head.{Head}
 
 -- what it tells
 abbrev pub told : ListKeeper → Told
 told k = told_by k.head k.list.now
+
+-- an opened keeper tells a lawful description
+held_lawful : (held : Option Head) (list : List ℕ) → ForSome held (λ h. Kept h list) → 0 < (told_by held list).n → Lawful (told_by held list)
+held_lawful None list kept some = absurd (lt_irrefl 0 some)
+held_lawful (Some head) list kept some = (kept head refl).lawful
+
+pub told_lawful : (k : ListKeeper) → 0 < (told k).n → Lawful (told k)
+told_lawful k some = held_lawful k.head k.list.now k.kept some
 
 -- how many core groups it has room for: as many as its list has entries
 abbrev pub capacity_of : ListKeeper → ℕ

@@ -3,7 +3,7 @@ ghost use Rattle.std.specs.Prelude.{◌≡◌, length, take, Some, None, IfOk, I
 ghost use Rattle.domain.specs.declared.refusal.Refusal.TheVariants.{Order};
 ghost use Rattle.keeper.specs.Calls.{fault_of};
 ghost use Rattle.list_keeper.specs.Keeping.{Kept};
-ghost use Rattle.list_keeper.specs.ListKeepers.{told, capacity_of, IsOver, KeepsList};
+ghost use Rattle.list_keeper.specs.ListKeepers.{told, told_lawful, capacity_of, IsOver, KeepsList};
 
 use crate::ListKeeper;
 use crate::change::{change_list, open_list};
@@ -91,4 +91,6 @@ impl Keeper for ListKeeper<'_> {
             marks: head.outline.marks,
         })
     }
+
+    ghost lawful = { told_lawful };
 }

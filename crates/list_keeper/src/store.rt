@@ -1,14 +1,14 @@
 //! Keeping the core of a table.
 ghost use Rattle.std.specs.Option.{ForSome, ForNone};
-ghost use Rattle.std.specs.Prelude.{◌≡◌, ◌<◌, ◌≤◌, length};
+ghost use Rattle.std.specs.Prelude.{◌≡◌, length};
 ghost use Rattle.domain.specs.Tables.{told_with};
+ghost use Rattle.domain.specs.Told.{Lawful};
 ghost use Rattle.list_keeper.specs.Keeping.{Kept, Stores};
 ghost use Rattle.list_keeper.specs.Tells.{told_by};
 
 use crate::entries::clear;
 use crate::head::Head;
 use coverage::groups::Groups;
-use domain::limits::MOST_POSITIONS;
 use domain::outline::Outline;
 use domain::refusal::Refusal;
 use keeper::KeeperFault;
@@ -21,8 +21,7 @@ pub(crate) fn store(
     table: &[u8],
     outline: Outline,
 ) -> Result<(), KeeperFault>
-    requires some { 0 < outline.positions }
-    requires few { outline.positions ≤ MOST_POSITIONS }
+    requires lawful { Lawful (told_with outline table.now) }
     requires kept { ForSome head.old (λ h. Kept h list.old) }
     ensures kept { ForSome head.new (λ h. Kept h list.new) }
     ensures untouched { ForNone head.new (list.new ≡ list.old) }

@@ -1,18 +1,21 @@
--- A change on a lent table that holds what a description tells: its tests are those of the description.
+-- What a lent table tells after an open, and after a change where it told a description: its tests are those
+-- of the description, and what is made is lawful.
 use Rattle.std.proofs.Common.{◌≡◌, ℕ, ◌<◌, ◌≤◌, Bool, true, false, ◌||◌, ◌++◌, eqb, ltb, List, length, Some, None, Ok, Err, Option, Result, sym, ap, ◌∙◌, subst, arith}
-use Rattle.std.proofs.lemmas.Bool.{ne_eqb, le-ltb, or_from}
+use Rattle.std.proofs.lemmas.Bool.{ne_eqb, eqb-false, le-ltb, ltb-false, or_parts, or_from}
 use Rattle.domain.specs.Changes.{Makes, change_tests}
+use Rattle.domain.specs.Opening.{New}
 use Rattle.domain.specs.Refusals.{pick, first_of}
 use Rattle.domain.specs.Requests.{Gives, open_tests, bytes_for}
 use Rattle.domain.specs.Tables.{told_with}
-use Rattle.domain.specs.Told.{Told}
+use Rattle.domain.specs.Told.{Told, Lawful}
 use Rattle.domain.specs.declared.change.Change.{Change}
 use Rattle.domain.specs.declared.limits.TheConstants.{MOST_POSITIONS}
 use Rattle.domain.specs.declared.outline.Outline.{Outline}
 use Rattle.domain.specs.declared.refusal.Refusal.{Refusal}
 use Rattle.domain.specs.declared.refusal.Refusal.TheVariants.{Count}
-use Rattle.domain.proofs.ChangeLaws.{change_allowed}
-use Rattle.domain.proofs.Refusing.{gave}
+use Rattle.domain.proofs.ChangeLaws.{change_allowed, change_lawful}
+use Rattle.domain.proofs.Opening.{new_lawful}
+use Rattle.domain.proofs.Refusing.{passed, gave}
 
 -- a description has no more and no fewer positions than a table may have
 pub counted_told : (n : ℕ) (o : Option Refusal) → 0 < n → n ≤ MOST_POSITIONS → pick (eqb n 0 || ltb MOST_POSITIONS n) Count o ≡ o
@@ -36,20 +39,31 @@ pub refused_later : {A B : Type 0} (P : A → Type 0) (Q : B → Type 0) (b : Bo
 refused_later P Q true o x e r counted refused is = absurd (let q = counted in cc)
 refused_later P Q false o x e r counted refused is = rw refused is
 
+-- what a table tells that was opened is lawful
+pub open_given : (n : ℕ) (later : Option Refusal) (o : Outline) (table : List ℕ)
+    → Gives (pick (eqb n 0 || ltb MOST_POSITIONS n) Count later) (Ok o) (λ x. New n (told_with x table))
+    → (pick (eqb n 0 || ltb MOST_POSITIONS n) Count later ≡ None) × New n (told_with o table) × Lawful (told_with o table)
+open_given n later o table h =
+    let g = gave _ o (λ x. New n (told_with x table)) h in
+    let tests = or_parts (eqb n 0) (ltb MOST_POSITIONS n) (passed _ _ _ (sym g.0)).0 in
+    (g.0, g.1, new_lawful (omega (arith, eqb-false n 0 tests.0)) (ltb-false MOST_POSITIONS n tests.1) g.1)
+
 module _ (c : Change (List ℕ)) (o : Outline) (d : Told) (laid : List ℕ) (bytes : ℕ)
-    (some : 0 < d.n) (few : d.n ≤ MOST_POSITIONS) (positions : o.positions ≡ d.n) (long : length laid ≡ bytes) where
+    (law : Lawful d) (positions : o.positions ≡ d.n) (long : length laid ≡ bytes) where
   given_tests : first_of (open_tests o.positions ++ change_tests o.positions c (length laid)) ≡ first_of (change_tests d.n c bytes)
   given_tests =
-      counted_told o.positions (first_of (change_tests o.positions c (length laid))) (rw positions some) (rw positions few)
+      counted_told o.positions (first_of (change_tests o.positions c (length laid))) (rw positions law.some_positions) (rw positions law.few_positions)
       ∙ ap (λ (n : ℕ). first_of (change_tests n c (length laid))) positions ∙ ap (λ (k : ℕ). first_of (change_tests d.n c k)) long
 
   pub change_given : (bytes_for d.n ≤ bytes → told_with o laid ≡ d) → (x : Outline) (table : List ℕ)
       → Gives (first_of (open_tests o.positions ++ change_tests o.positions c (length laid))) (Ok x) (λ y. Makes c (told_with o laid) (told_with y table))
-      → (first_of (change_tests d.n c bytes) ≡ None) × Makes c d (told_with x table)
+      → (first_of (change_tests d.n c bytes) ≡ None) × Makes c d (told_with x table) × Lawful (told_with x table)
   change_given told x table h =
       let g = gave _ x (λ y. Makes c (told_with o laid) (told_with y table)) h in
       let none : first_of (change_tests d.n c bytes) ≡ None = sym given_tests ∙ g.0 in
-      (none, subst (λ (d : Told). Makes c d (told_with x table)) (told (change_allowed d.n c bytes (sym none)).1) g.1)
+      let allowed = change_allowed d.n c bytes (sym none) in
+      let made : Makes c d (told_with x table) = subst (λ (d : Told). Makes c d (told_with x table)) (told allowed.1) g.1 in
+      (none, made, change_lawful c d (told_with x table) allowed.0 law made)
 
   pub change_refused : (e : Refusal) (table : List ℕ)
       → Gives (first_of (open_tests o.positions ++ change_tests o.positions c (length laid))) (Err e) (λ y. Makes c (told_with o laid) (told_with y table))

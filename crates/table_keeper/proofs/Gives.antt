@@ -1,6 +1,5 @@
 -- What a description gives, as the keeper's contracts want it.
 use Rattle.std.proofs.Common.{◌≡◌, ℕ, ◌≤◌, Bool, true, false, not, ◌||◌, eqb, ltb, is_some, List, Some, None, Ok, Option, sym, refl, ap, subst, arith, le-ltb, ne_eqb}
-use Rattle.std.specs.Prelude.{unwrap_or, option_map}
 use Rattle.std.proofs.lemmas.Bool.{false≢true}
 use Rattle.coverage.proofs.Cover.{alike_refl}
 use Rattle.description.specs.Descriptions.{told}
@@ -16,10 +15,7 @@ use Rattle.domain.specs.declared.refusal.Refusal.TheVariants.{Count, Room}
 use Rattle.domain.proofs.Refusing.{gave}
 use Rattle.keeper.specs.Calls.{Opens, Changes, ChangesBy, Exactly, opened, unopened}
 use Rattle.coverage.proofs.MostGroups.{most_fit}
-
--- what is told of what is held
-abbrev pub told_by : Option Description → Told
-told_by o = unwrap_or (option_map told o) unopened
+use Rattle.table_keeper.specs.Tells.{told_by}
 
 -- a keeper that holds nothing is not opened
 told_none : (o : Option Description) → is_some o ≡ false → told_by o ≡ unopened

@@ -9,7 +9,7 @@ use Rattle.domain.specs.Requests.{open_tests}
 use Rattle.domain.specs.Told.{Group}
 use Rattle.domain.specs.declared.marks.Marks.{Marks}
 use Rattle.keeper.specs.Calls.{Writes}
-use Rattle.table_keeper.proofs.Gives.{told_by}
+use Rattle.table_keeper.specs.Tells.{told_by}
 
 pub writes_held : (held : Option Description) (d : Description) → held ≡ Some d → (n : ℕ) (table list list' : List ℕ) (count : ℕ) (marks : Marks)
     → n ≡ d.outline.positions → table ≡ d.table → marks ≡ d.outline.marks → length list' ≡ length list

@@ -3,7 +3,7 @@ ghost use Rattle.std.specs.Prelude.{◌≡◌, Some, None, IfOk, IfErr, OnOk};
 ghost use Rattle.domain.specs.declared.limits.TheConstants.{MOST_GROUPS};
 ghost use Rattle.domain.specs.declared.refusal.Refusal.TheVariants.{Order};
 ghost use Rattle.keeper.specs.Calls.{fault_of, unopened};
-ghost use Rattle.table_keeper.specs.Tells.{told};
+ghost use Rattle.table_keeper.specs.Tells.{told, told_lawful};
 
 use crate::TableKeeper;
 use coverage::groups::Groups;
@@ -82,4 +82,6 @@ impl Keeper for TableKeeper {
         let count = groups.write_core(list)?;
         Ok(WrittenOut { count, marks })
     }
+
+    ghost lawful = { told_lawful };
 }

@@ -9,5 +9,5 @@ returns c =
     let head = c.in_ok-head.head in
     let is = c.in_ok-head.ensures.head in
     let low = (gave _ _ (λ u. c.args.position < head.outline.positions) c.in_ok-check_position.ensures).1 in
-    ground_answered k.head head k.list.now is c.in_ok-head.ensures.kept.some c.args.position low c.groups.result.now c.groups.ensures.groups
+    ground_answered k.head head k.list.now is c.in_ok-head.ensures.kept.lawful.some_positions c.args.position low c.groups.result.now c.groups.ensures.groups
     c.some_holds.result c.some_holds.ensures
