@@ -29,18 +29,6 @@ use Rattle.list_keeper.specs.Tells.{tells}
 use Rattle.list_keeper.specs.declared.ListKeeper.{ListKeeper}
 use Rattle.list_keeper.specs.declared.head.Head.{Head}
 
--- sets with the same groups have the same core
-core_as : {G H : ℕ → Type 0} {g : ℕ} → ((h : ℕ) → G h → H h) → ((h : ℕ) → H h → G h) → Core G g → Core H g
-core_as {g = g} f b c =
-    record {
-      told = f g c.told;
-      p = c.p;
-      q = c.q;
-      left = c.left;
-      right = c.right;
-      uncovered = λ h t w ne i j. c.uncovered h (b h t) w ne i j;
-    }
-
 -- ---- what is told is its own core
 
 module _ (head : Head) (list : List ℕ) (kept : Kept head list) where
@@ -127,7 +115,7 @@ module _ (outline : Outline) (table list list' list'' : List ℕ) (count : ℕ) 
   -- the core of the core is the core
   own : (g : ℕ) → Group (tells new_head list'') g → (Core (Group (tells new_head list'')) g → ⊥) → ⊥
   own g t other =
-      other (core_as of_core is_core_lem (core_kept (same_turned (core_same (dec_group (told_with outline table)))) (is_core_lem g t)))
+      other (core_kept (same_groups of_core is_core_lem) (core_kept (same_turned (core_same (dec_group (told_with outline table)))) (is_core_lem g t)))
 
   told_core : TellsCore (told_with outline table) (tells new_head list'')
   told_core = record { positions = refl; marks = refl; only = is_core_lem; all = of_core }
