@@ -1,5 +1,5 @@
 //! The limits of a description, and the tests against them.
-ghost use Rattle.std.specs.Prelude.{◌≡◌, ◌<◌, ◌≤◌};
+ghost use Rattle.std.specs.Prelude.{◌≡◌, ◌<◌, ◌≤◌, ◌*◌, ◌+◌, ◌^◌};
 ghost use Rattle.domain.specs.Refusals.{first_of};
 ghost use Rattle.domain.specs.Requests.{open_tests, ask_tests, room_tests, bytes_for, Gives};
 
@@ -14,9 +14,13 @@ pub const MOST_GROUPS: usize = 4_095;
 /// The bytes that have a bit for every mask of the most positions.
 pub const TABLE_BYTES: usize = 512;
 
-/// The bytes that the work on so many positions needs.
+/// The bytes that the work on so many positions needs: a bit for every mask. Every mask but the empty one can be
+/// a group.
 pub fn bytes_for(_positions: u8) -> usize
-    ensures { result ≡ bytes_for _positions }
+    ensures bytes { result ≡ bytes_for _positions }
+    ensures most_positions { MOST_POSITIONS ≡ 12 }
+    ensures bit_for_each_mask { 8 * TABLE_BYTES ≡ 2 ^ MOST_POSITIONS }
+    ensures group_for_each_mask { MOST_GROUPS + 1 ≡ 2 ^ MOST_POSITIONS }
 {
     TABLE_BYTES
 }

@@ -8,8 +8,8 @@ use domain::limits::{MOST_POSITIONS, check_position};
 use domain::refusal::Refusal;
 use sheet::ReaderFault;
 
-// A length and a kind stand before the payload.
-const HEAD: usize = 4;
+/// The bytes of a length and a kind, which stand before the payload.
+pub const HEAD: usize = 4;
 
 // Where a record starts, its kind, and where its payload starts and ends.
 #[derive(Clone, Copy)]

@@ -3,6 +3,8 @@ ghost use Rattle.std.specs.Prelude.{◌≡◌, ◌<◌, ◌≤◌, length, Ok, E
 ghost use Rattle.domain.specs.declared.refusal.Layer.TheVariants.{Reader};
 ghost use Rattle.sheet.specs.Faults.{CanRefuse};
 ghost use Rattle.sheet.specs.Steps.{LiesOn};
+ghost use Rattle.reader.specs.declared.record.TheConstants.{HEAD};
+ghost use Rattle.reader.specs.declared.term.TheConstants.{DEEPEST};
 ghost use Rattle.reader.specs.Heads.{head_at, head_of, sheet_of};
 ghost use Rattle.reader.specs.Payloads.{open_of, bind_of, join_of, forget_of, ask_of, end_of, step_of, SumsTerm};
 
@@ -24,6 +26,7 @@ impl<'a> StepRecord<'a> {
     /// a step's.
     #[tactic(auto, using(crate::proofs::Faults::record_refuses, crate::proofs::Faults::kind_refuses))]
     pub fn read(sheet: &'a [u8], at: usize) -> Result<StepRecord<'a>, ReaderFault>
+        ensures head_bytes { HEAD ≡ 4 }
         ensures head { IfOk result (λ r. Ok (head_of r) ≡ head_at sheet.now at) }
         ensures fault { IfErr result (λ f. Err f ≡ head_at sheet.now at) }
         ensures refuses { IfErr result (λ f. CanRefuse Reader f.refusal) }
@@ -54,6 +57,7 @@ impl<'a> StepRecord<'a> {
     /// of a bind says what occurs in the tree that the payload holds.
     #[tactic(auto, using(crate::proofs::Occurrences::bind_sums, crate::proofs::Faults::step_refuses, crate::proofs::Faults::an_open, crate::proofs::Faults::a_bind, crate::proofs::Faults::a_join, crate::proofs::Faults::a_forget, crate::proofs::Faults::an_ask, crate::proofs::Faults::an_end))]
     pub fn step(&self) -> Result<Step, ReaderFault>
+        ensures deepest { DEEPEST ≡ 16 }
         ensures value { result ≡ step_of (sheet_of self.now) (head_of self.now) }
         ensures lies { IfOk result (LiesOn (sheet_of self.now)) }
         ensures refuses { IfErr result (λ f. CanRefuse Reader f.refusal) }

@@ -20,8 +20,8 @@ pub(crate) enum TermKind {
     Compound,
 }
 
-// Compounds nest at most this deep, the outermost counting as 1.
-const DEEPEST: u8 = 16;
+/// Compounds nest at most this deep, the outermost counting as 1.
+pub const DEEPEST: u8 = 16;
 
 // The kind that has this number on a sheet.
 impl TryFrom<u16> for TermKind {
