@@ -22,7 +22,6 @@ impl Question {
     pub fn ask<K: Keeper>(self, keeper: &K) -> Result<bool, KeeperFault>
         ensures { Asks (K.Keeper.told keeper.now) self result }
     {
-        // a match on a closed set is known to be complete; closures for each question would not be
         match self {
             Question::Ground(p) => keeper.is_ground(p),
             Question::Free(p) => keeper.is_free(p),
