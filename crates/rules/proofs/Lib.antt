@@ -6,3 +6,4 @@ pub mod Linearity
 pub mod Staying
 pub mod Binding
 pub mod Lending
+pub mod Beside

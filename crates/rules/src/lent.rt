@@ -1,12 +1,13 @@
 //! The rules on a lent table, beside which the caller keeps the outline. The new table takes the place of the
 //! old one; where a call is refused, the table stays as it was.
-ghost use Rattle.std.specs.Prelude.{◌≡◌, ℕ, ◌/◌, ◌<◌, ◌↔◌, ◌++◌, length, Contains, Err, IsTrue};
+ghost use Rattle.std.specs.Prelude.{◌≡◌, ℕ, ◌/◌, ◌<◌, ◌↔◌, ◌++◌, length, Contains, Err, IsTrue, OnOk};
 ghost use Rattle.domain.specs.Changes.{Makes, change_tests, lent_change};
-ghost use Rattle.domain.specs.Opening.{New};
+ghost use Rattle.domain.specs.Opening.{New, Single};
 ghost use Rattle.domain.specs.Refusals.{first_of};
 ghost use Rattle.domain.specs.Requests.{open_tests, room_tests, Gives};
 ghost use Rattle.domain.specs.Tables.{TableGroup, holds_bit, told_with};
 ghost use Rattle.rules.specs.Reaching.{Reach};
+ghost use Rattle.rules.specs.Views.{SameBeside};
 
 use crate::bench::Bench;
 use crate::groups::{Groups, all};
@@ -18,12 +19,14 @@ use domain::marks::Marks;
 use domain::outline::Outline;
 use domain::refusal::Refusal;
 
-/// Makes the table that of the new description: each position alone in its group, free and linear. Refuses a
-/// number of positions that no description has, and a table that is too short.
+/// Makes the table that of the new description: each position alone in its group, free and linear. All its other
+/// bits are cleared, to its end. Refuses a number of positions that no description has, and a table that is too
+/// short.
 pub fn open_table(table: &mut [u8], positions: u8) -> Result<Outline, Refusal>
     ensures gives { Gives
         (first_of (open_tests positions ++ room_tests positions (length table.old))) result
         (λ o. New positions (told_with o table.new)) }
+    ensures whole { OnOk result ((g : ℕ) → (IsTrue (holds_bit table.new g) ↔ Single positions g)) }
     ensures kept { (e : Refusal) → result ≡ Err e → table.new ≡ table.old }
 {
     check_count(positions)?;
@@ -39,7 +42,8 @@ pub fn open_table(table: &mut [u8], positions: u8) -> Result<Outline, Refusal>
     })
 }
 
-/// Clears the table and puts the groups of the list into it. A group past the table's end is left out.
+/// Clears the table, to its end, and puts the groups of the list into it. A group past the table's end is left
+/// out.
 pub fn load_table(table: &mut [u8], groups: &[u16])
     ensures { (g : ℕ) → g / 8 < length table.old
         → (IsTrue (holds_bit table.new g) ↔ Contains groups.now g) }
@@ -58,8 +62,9 @@ pub fn reach_table(table: &[u8], positions: u8, mask: u16) -> Result<u16, Refusa
     Ok(Groups { table, positions }.reach(mask))
 }
 
-/// Makes the table that of the description after the change, and gives its outline. Refuses what the change
-/// itself does, and before it a number of positions that no description has.
+/// Makes the table that of the description after the change, and gives its outline. The bits that are no groups,
+/// of mask 0 and of masks at 2 to the power of the number of positions and above, may be any before, and stay.
+/// Refuses what the change itself does, and before it a number of positions that no description has.
 pub fn change_table(
     table: &mut [u8],
     outline: Outline,
@@ -69,6 +74,7 @@ pub fn change_table(
         ++ change_tests outline.positions (lent_change change.entry) (length table.old))) result
         (λ o. Makes (lent_change change.entry) (told_with outline table.old)
         (told_with o table.new)) }
+    ensures beside { SameBeside outline.positions table.old table.new }
     ensures kept { (e : Refusal) → result ≡ Err e → table.new ≡ table.old }
 {
     let limits = Limits::of(outline.positions, table.len())?;

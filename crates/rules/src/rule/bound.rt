@@ -4,7 +4,7 @@ ghost use Rattle.domain.specs.Binding.{Bound, NewGroup, StaysFree, StaysLinear};
 ghost use Rattle.domain.specs.Masks.{In};
 ghost use Rattle.domain.specs.Tables.{TableGroup, holds_bit, told_with};
 ghost use Rattle.rules.specs.Signs.{IsBindable, Seen};
-ghost use Rattle.rules.specs.Views.{told_by, told_on};
+ghost use Rattle.rules.specs.Views.{SameBeside, told_by, told_on};
 
 use super::made::BindCase;
 use super::sides::{AskedBind, Signs};
@@ -22,6 +22,8 @@ impl Bench<'_> {
         requires { IsBindable self.old.outline.positions position term }
         ensures gives { Bound (told_on self.old) position term
             (told_with result self.new.table.now) }
+        ensures beside { SameBeside self.old.outline.positions self.old.table.now
+            self.new.table.now }
         ensures lent { self.new.table.ghost_name ≡ self.old.table.ghost_name }
     {
         let positions = self.outline.positions;
@@ -55,6 +57,8 @@ impl Bench<'_> {
             ↔ NewGroup (TableGroup self.old.outline.positions self.old.table.now)
             bind.own bind.held bind.case u) }
         ensures kept { self.new.outline ≡ self.old.outline }
+        ensures beside { SameBeside self.old.outline.positions self.old.table.now
+            self.new.table.now }
         ensures lent { self.new.table.ghost_name ≡ self.old.table.ghost_name }
     {
         let positions = self.outline.positions;

@@ -2,7 +2,7 @@
 ghost use Rattle.std.specs.Prelude.{◌≡◌, ℕ, ◌^◌, ◌<◌, ◌↔◌, IsTrue};
 ghost use Rattle.domain.specs.Forgetting.{Forgotten, Left, Supplied};
 ghost use Rattle.domain.specs.Tables.{TableGroup, holds_bit, told_with};
-ghost use Rattle.rules.specs.Views.{told_on};
+ghost use Rattle.rules.specs.Views.{SameBeside, told_on};
 
 use crate::bench::Bench;
 use crate::groups::Groups;
@@ -16,6 +16,8 @@ impl Bench<'_> {
     pub(crate) fn forgotten(&mut self, mask: u16) -> Outline
         requires { mask < 2 ^ self.old.outline.positions }
         ensures gives { Forgotten (told_on self.old) mask (told_with result self.new.table.now) }
+        ensures beside { SameBeside self.old.outline.positions self.old.table.now
+            self.new.table.now }
         ensures lent { self.new.table.ghost_name ≡ self.old.table.ghost_name }
     {
         let Outline { positions, marks } = self.outline;
@@ -35,6 +37,8 @@ impl Bench<'_> {
         ensures made { (u : ℕ) → 0 < u → u < 2 ^ self.old.outline.positions
             → (IsTrue (holds_bit self.new.table.now u)
             ↔ Left (TableGroup self.old.outline.positions self.old.table.now) mask u) }
+        ensures beside { SameBeside self.old.outline.positions self.old.table.now
+            self.new.table.now }
         ensures lent { self.new.table.ghost_name ≡ self.old.table.ghost_name }
     {
         let positions = self.outline.positions;

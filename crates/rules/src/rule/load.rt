@@ -6,7 +6,7 @@ ghost use Rattle.domain.specs.Opening.{Single};
 ghost use Rattle.domain.specs.Requests.{bytes_for};
 ghost use Rattle.domain.specs.Tables.{holds_bit, told_with};
 ghost use Rattle.domain.specs.declared.limits.TheConstants.{MOST_POSITIONS};
-ghost use Rattle.rules.specs.Views.{told_on};
+ghost use Rattle.rules.specs.Views.{SameBeside, told_on};
 
 use crate::bench::Bench;
 use domain::listing::Listing;
@@ -47,6 +47,8 @@ impl Bench<'_> {
             → (0 < g) × (g < 2 ^ self.old.outline.positions) }
         ensures gives { Joined (told_on self.old) (lent_listing other.entry)
             (told_with result self.new.table.now) }
+        ensures beside { SameBeside self.old.outline.positions self.old.table.now
+            self.new.table.now }
         ensures lent { self.new.table.ghost_name ≡ self.old.table.ghost_name }
     {
         put_groups(self.table, other.groups);
