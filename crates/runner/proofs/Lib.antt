@@ -1,5 +1,7 @@
+pub mod Laid
 pub mod Marking
 pub mod Meanings
 pub mod Plays
 pub mod Runs
+pub mod Scripts
 pub mod Settled

@@ -1,6 +1,6 @@
 -- What the runner's loop keeps: whatever the rest of the script plays to, the whole script plays to
 -- with the marks written so far in front.
-use Rattle.std.proofs.Common.{◌≡◌, ℕ, zero, suc, ◌+◌, ◌-◌, ◌<◌, ◌≤◌, Bool, true, false, List, [], ◌∷◌, ◌++◌, length, drop, set, IfOk, Ok, Err, Result, sym, refl, ap, ◌∙◌, subst, append_assoc, append-nil, arith, length-append, le-ltb, lt-ltb, ne_eqb}
+use Rattle.std.proofs.Common.{◌≡◌, ℕ, zero, suc, ◌+◌, ◌-◌, ◌<◌, ◌≤◌, Bool, true, false, List, [], ◌∷◌, ◌++◌, length, drop, set, IfOk, Ok, Err, Result, sym, refl, ap, ◌∙◌, subst, append_assoc, append-nil, arith, length-append, le-ltb, lt-ltb}
 use native.Mathlib.Nat.{sub-zero}
 use Rattle.domain.proofs.Written.{written_more}
 use Rattle.domain.specs.Told.{Told}
@@ -13,8 +13,8 @@ use Rattle.sheet.specs.declared.fault.RunnerFault.TheVariants.{Reader, Runner, K
 use Rattle.sheet.specs.declared.fault.SheetFault.{SheetFault}
 use Rattle.sheet.specs.declared.kind.StepKind.{StepKind}
 use Rattle.sheet.specs.declared.mark.StepMark.{StepMark}
-use Rattle.sheet.specs.declared.steps.Step.{Step}
 use Rattle.sheet.specs.declared.steps.TheConstants.{LONGEST_SHEET}
+use Rattle.runner.proofs.Scripts.{some_room, room_left, script_turn, script_end}
 use Rattle.runner.specs.Following.{next_at}
 use Rattle.runner.specs.Playing.{Plays, ends, breaks, stops, goes, Ran, mark_of}
 use Rattle.runner.specs.Running.{Script, broken, follows, script_from, script_of, lacks_room, turn, closing}
@@ -31,13 +31,6 @@ pub same_setting : (sheet : List ℕ) {a b c d m n : ℕ} → a ≡ b → c ≡ 
     → ◌≡◌ {A = Setting} (record { capacity = a; scratch = c; sheet = sheet; groups = m })
     (record { capacity = b; scratch = d; sheet = sheet; groups = n })
 same_setting sheet p q o = λ i. record { capacity = p i; scratch = q i; sheet = sheet; groups = o i }
-
-some_room : (marks groups : ℕ) (step : Step) → 0 < marks → group_count step ≤ groups → lacks_room marks groups step ≡ false
-some_room marks groups step some fit = rw (ne_eqb marks 0 (λ e. omega arith)) (le-ltb groups (group_count step) fit)
-
-room_left : (marks groups : ℕ) (step : Step) → lacks_room marks groups step ≡ false → 0 < marks
-room_left zero groups step none = absurd cc
-room_left (suc marks) groups step none = omega arith
 
 -- a turn that the keeper answers, with its mark behind the marks in use
 pub turns_go : (s : Setting) (c : Cursor) (next : Next) (read : Result Next RunnerFault) (b : Bool) (t : Transition)
@@ -81,16 +74,6 @@ module _ (s : Setting) (before : Told) (marks₀ : List StepMark) where
             (subst (λ (x : ℕ). Plays (Serves s) (script_from (suc (length s.sheet)) s.sheet s.groups x New 0) 0 before ms r e) (sub-zero (length marks₀)) p);
       }
 
-  script_turn : (turns room at : ℕ) (state : State) (next : Result Next RunnerFault) → at < length s.sheet → next_at s.sheet state at ≡ next
-      → script_from (suc turns) s.sheet s.groups room state at ≡ turn (script_from turns s.sheet s.groups) s.groups at next room
-  unfolding script_from
-  script_turn turns room at state next h e = rw (lt-ltb at (length s.sheet) h, e)
-
-  script_end : (turns room at : ℕ) (state : State) → length s.sheet ≤ at
-      → script_from (suc turns) s.sheet s.groups room state at ≡ closing state (length s.sheet)
-  unfolding script_from
-  script_end turns room at state h = rw (le-ltb at (length s.sheet) h)
-
   -- one turn
   module _ (c : Cursor) (d e : Told) (marks marks' : List StepMark) (long : length marks ≡ length marks₀)
       (here : c.at < length s.sheet) where
@@ -130,7 +113,7 @@ module _ (s : Setting) (before : Told) (marks₀ : List StepMark) where
             ≡ follows c.at next.step (script_from turns s.sheet s.groups (length marks₀ - (c.step + 1)) next.state next.end)
         same =
             rw t
-            (script_turn turns (length marks₀ - c.step) c.at c.state (Ok next) here n
+            (script_turn s.sheet s.groups turns (length marks₀ - c.step) c.at c.state (Ok next) here n
             ∙ rw (fit, left) refl)
 
     -- the run ends here, with no mark more
@@ -145,7 +128,7 @@ module _ (s : Setting) (before : Told) (marks₀ : List StepMark) where
         go (suc turns) t =
             let script : script_from w.turns s.sheet s.groups (length marks₀ - c.step) c.state c.at
             ≡ turn (script_from turns s.sheet s.groups) s.groups c.at next (length marks₀ - c.step)
-            = rw t (script_turn turns (length marks₀ - c.step) c.at c.state next here n) in
+            = rw t (script_turn s.sheet s.groups turns (length marks₀ - c.step) c.at c.state next here n) in
             record {
               written = w.written;
               played = subst (λ (l : List StepMark). Plays (Serves s) (script_of s.sheet s.groups (length marks₀)) 0 before l r e)
@@ -210,7 +193,7 @@ module _ (s : Setting) (before : Told) (marks₀ : List StepMark) where
           let inside : c.at ≤ length s.sheet = w.within in
           let same : length s.sheet ≡ c.at = omega arith in
           let script : script_from w.turns s.sheet s.groups (length marks₀ - c.step) c.state c.at ≡ closing c.state c.at =
-          rw t (script_end turns (length marks₀ - c.step) c.at c.state past ∙ ap (closing c.state) same) in
+          rw t (script_end s.sheet s.groups turns (length marks₀ - c.step) c.at c.state past ∙ ap (closing c.state) same) in
           record {
             written = w.written;
             played = subst (λ (l : List StepMark). Plays (Serves s) (script_of s.sheet s.groups (length marks₀)) 0 before l (outcome_in c.state c.step c.at) d)

@@ -1,4 +1,5 @@
 use Rattle.std.proofs.Common.{rules}
+use Rattle.runner.proofs.Laid.{reads_laid}
 use Rattle.runner.proofs.Meanings.{ran_everywhere}
 use Rattle.runner.proofs.Runs.{ran_over}
 use Rattle.runner.proofs.Settled.{one_meaning, ran_as_meant}
@@ -16,3 +17,10 @@ returns-then-sheet-gt-LONGEST_SHEET-clause-one_meaning g c = one_meaning _ _ _ _
 
 pub returns-clause-as_meant : goal.returns-clause-as_meant
 returns-clause-as_meant g c = ran_as_meant _ _ _ _ _ (ran_over c.over-marks.ensures.same (search rules) c.run_steps.ensures.ran)
+
+pub returns-clause-reads_laid : goal.returns-clause-reads_laid
+returns-clause-reads_laid g c = reads_laid _ _ _
+
+pub returns-then-sheet-gt-LONGEST_SHEET-clause-reads_laid :
+    goal.returns-then-sheet-gt-LONGEST_SHEET-clause-reads_laid
+returns-then-sheet-gt-LONGEST_SHEET-clause-reads_laid g c = reads_laid _ _ _
