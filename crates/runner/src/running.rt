@@ -48,6 +48,9 @@ pub fn run<K: Keeper>(
         lists.old.marks.now lists.new.marks.now result }
     ensures reads_laid { ReadsLaid sheet.now (length lists.old.groups.now) (length lists.old.marks.now) }
     ensures same_capacity { K.Keeper.capacity keeper.new ≡ K.Keeper.capacity keeper.old }
+    ensures marks_long { length lists.new.marks.now ≡ length lists.old.marks.now }
+    ensures groups_long { length lists.new.groups.now ≡ length lists.old.groups.now }
+    ensures scratch_long { length lists.new.scratch.now ≡ length lists.old.scratch.now }
     ensures marks_lent { lists.new.marks.ghost_name ≡ lists.old.marks.ghost_name }
     ensures groups_lent { lists.new.groups.ghost_name ≡ lists.old.groups.ghost_name }
     ensures scratch_lent { lists.new.scratch.ghost_name ≡ lists.old.scratch.ghost_name }
@@ -82,6 +85,7 @@ fn run_steps<K: Keeper>(
         })
         (record { before = K.Keeper.told keeper.old; after = K.Keeper.told keeper.new })
         (slots marks.old) (slots marks.new) result }
+    ensures long { length (slots marks.new) ≡ length (slots marks.old) }
     ensures lent { loan_of marks.new ≡ loan_of marks.old }
     ensures same_capacity { K.Keeper.capacity keeper.new ≡ K.Keeper.capacity keeper.old }
 {

@@ -44,6 +44,7 @@ returns-in_err-cursor g c =
           (runs_turn _ _ _ c.loop-cursor.cursor _ _ (slots c.loop-cursor.marks) _ kept.long c.loop-cursor-test.true
           (Err took.0) tt tt kept.running _
           (same_setting _ kept.same_capacity c.loop-cursor.auto.scratch c.loop-cursor.auto.groups) ens.turns);
+      long = c.take_step.ensures.long ∙ kept.long;
       lent = c.take_step.ensures.lent ∙ kept.lent;
       same_capacity = c.take_step.ensures.same_capacity ∙ kept.same_capacity;
     }
@@ -54,6 +55,7 @@ returns g c =
     record {
       ran = rw c.outcome.ensures
           (runs_end _ _ _ c.loop-cursor.cursor _ (slots c.loop-cursor.marks) kept.running c.loop-cursor-test.false);
+      long = kept.long;
       lent = kept.lent;
       same_capacity = kept.same_capacity;
     }
