@@ -46,7 +46,8 @@ pub fn run<K: Keeper>(
         (setting_of (K.Keeper.capacity keeper.old) sheet.now lists.old)
         (record { before = K.Keeper.told keeper.old; after = K.Keeper.told keeper.new })
         lists.old.marks.now lists.new.marks.now result }
-    ensures reads_laid { ReadsLaid sheet.now (length lists.old.groups.now) (length lists.old.marks.now) }
+    ensures reads_laid { ReadsLaid sheet.now (length lists.old.groups.now)
+        (length lists.old.marks.now) }
     ensures same_capacity { K.Keeper.capacity keeper.new ≡ K.Keeper.capacity keeper.old }
     ensures marks_long { length lists.new.marks.now ≡ length lists.old.marks.now }
     ensures groups_long { length lists.new.groups.now ≡ length lists.old.groups.now }
