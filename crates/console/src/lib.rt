@@ -1,15 +1,15 @@
 //! What the programs share: a sheet from standard input, run on a keeper, printed line by line.
 #![tactic(auto)]
 
-ghost use Rattle.std.specs.Prelude.{◌≡◌, IfOk, string_bytes, OnOk};
-ghost use Rattle.console.specs.Printing.{Prints, Served};
+ghost use Rattle.std.specs.Prelude.{◌≡◌, IfOk, None, string_bytes};
+ghost use Rattle.console.specs.Printing.{IsInput, Prints, Served};
 
 use domain::limits::{MOST_GROUPS, TABLE_BYTES};
 use keeper::Keeper;
 use runner::{WorkLists, run};
 use sheet::{LONGEST_SHEET, StepMark};
 use std::alloc::{AllocError, Global};
-use std::io::Read;
+use std::io::{self, Read, Write};
 use transcript::transcript;
 
 /// How many steps a program has marks for.
@@ -18,15 +18,24 @@ pub const MOST_MARKS: usize = 4_096;
 // One byte more than a sheet can have: enough to see that it is too long.
 const MOST_INPUT: u64 = LONGEST_SHEET as u64 + 1;
 
-/// Runs a sheet on a keeper, and gives what is to be printed of it.
+/// Reads a sheet from a reader: all that it has left, or one byte more than a sheet can have.
+pub fn read_sheet<R: Read + Drop>(heap: Global, reader: R) -> io::Result<Vec<u8>>
+    ensures { IfOk result (λ bytes. IsInput (R.remaining reader) bytes.items) }
+{
+    let mut bytes = Vec::new(heap);
+    reader.take(MOST_INPUT).read_to_end(&mut bytes)?;
+    Ok(bytes)
+}
+
+/// Runs a sheet on a keeper, and gives what is to be printed of it. The only error is want of memory for that, and
+/// the run has come to its end by then.
 pub fn run_sheet<K: Keeper>(
     heap: Global,
     keeper: &mut K,
     bytes: &[u8],
 ) -> Result<String, AllocError>
-    ensures prints { IfOk result
-        (λ text. Prints (K.Keeper.capacity keeper.old) bytes.now (K.Keeper.told keeper.old)
-        (K.Keeper.told keeper.new) (string_bytes text)) }
+    ensures prints { Prints (K.Keeper.capacity keeper.old) bytes.now (K.Keeper.told keeper.old)
+        (K.Keeper.told keeper.new) (λ text. IfOk result (λ s. string_bytes s ≡ text)) }
     ensures same_capacity { K.Keeper.capacity keeper.new ≡ K.Keeper.capacity keeper.old }
 {
     let mut marks = [StepMark::blank(); MOST_MARKS];
@@ -41,15 +50,30 @@ pub fn run_sheet<K: Keeper>(
     transcript(heap, lists.marks, outcome)
 }
 
-/// Reads a sheet from standard input, runs it on the keeper and prints a line for each step.
-pub fn run_input<K: Keeper>(rt: &HostRuntime, keeper: &mut K) -> anyhow::Result<()>
-    ensures served { OnOk result
-        (Served (K.Keeper.capacity keeper.old) (K.Keeper.told keeper.old) (K.Keeper.told keeper.new)) }
+/// Reads a sheet from a reader, runs it on the keeper and writes a line for each step to a writer.
+pub fn run_between<K: Keeper, R: Read + Drop, W: Write>(
+    heap: Global,
+    keeper: &mut K,
+    reader: R,
+    writer: &mut W,
+) -> anyhow::Result<()>
+    ensures served { Served (K.Keeper.capacity keeper.old) (K.Keeper.told keeper.old)
+        (K.Keeper.told keeper.new) (R.remaining reader) (W.contents writer.old)
+        (W.contents writer.new) result }
     ensures same_capacity { K.Keeper.capacity keeper.new ≡ K.Keeper.capacity keeper.old }
 {
-    let mut bytes = Vec::new(rt.alloc());
-    rt.stdin().take(MOST_INPUT).read_to_end(&mut bytes)?;
-    let text = run_sheet(rt.alloc(), keeper, bytes.as_slice())?;
-    print!(rt; "{text}")?;
+    let bytes = read_sheet(heap, reader)?;
+    let text = run_sheet(heap, keeper, bytes.as_slice())?;
+    writer.write_all(text.as_bytes())?;
     Ok(())
+}
+
+/// Reads a sheet from standard input, runs it on the keeper and prints a line for each step. Whatever fails, the
+/// keeper tells what it told before the run or what the run left.
+pub fn run_input<K: Keeper>(rt: &HostRuntime, keeper: &mut K) -> anyhow::Result<()>
+    ensures served { Served (K.Keeper.capacity keeper.old) (K.Keeper.told keeper.old)
+        (K.Keeper.told keeper.new) None None None result }
+    ensures same_capacity { K.Keeper.capacity keeper.new ≡ K.Keeper.capacity keeper.old }
+{
+    run_between(rt.alloc(), keeper, rt.stdin(), &mut rt.stdout())
 }

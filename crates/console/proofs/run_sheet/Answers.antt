@@ -1,20 +1,18 @@
 use Rattle.std.proofs.Common.{replicate}
 use lib.ListN.{length-replicate}
-use Rattle.std.proofs.lemmas.Result.{IfOk-weaker}
 use Rattle.console.specs.declared.TheConstants.{MOST_MARKS}
 use Rattle.console.proofs.run_sheet.Goals as goal
 
 pub returns : goal.returns
 returns g c =
     record {
-      prints = IfOk-weaker c.transcript.result _ _
-          (λ s e. record {
-            marks = replicate MOST_MARKS c.blank-marks.result;
-            marks' = c.run-outcome.new.lists.marks.now;
-            outcome = c.run-outcome.result;
-            room = length-replicate MOST_MARKS c.blank-marks.result;
-            ran = c.run-outcome.ensures.ran;
-            printed = e;
-          }) c.transcript.ensures;
+      prints = record {
+        marks = replicate MOST_MARKS c.blank-marks.result;
+        marks' = c.run-outcome.new.lists.marks.now;
+        outcome = c.run-outcome.result;
+        room = length-replicate MOST_MARKS c.blank-marks.result;
+        ran = c.run-outcome.ensures.ran;
+        says = c.transcript.ensures;
+      };
       same_capacity = c.run-outcome.ensures.same_capacity;
     }
