@@ -2,6 +2,7 @@
 #![tactic(auto)]
 
 ghost use Rattle.std.specs.Prelude.{◌≡◌, IfOk, None, string_bytes};
+ghost use Rattle.console.specs.declared.TheConstants.{MOST_MARKS};
 ghost use Rattle.console.specs.Printing.{IsInput, Prints, Served};
 
 use domain::limits::{MOST_GROUPS, TABLE_BYTES};
@@ -34,6 +35,7 @@ pub fn run_sheet<K: Keeper>(
     keeper: &mut K,
     bytes: &[u8],
 ) -> Result<String, AllocError>
+    ensures most_marks { MOST_MARKS ≡ 4096 }
     ensures prints { Prints (K.Keeper.capacity keeper.old) bytes.now (K.Keeper.told keeper.old)
         (K.Keeper.told keeper.new) (λ text. IfOk result (λ s. string_bytes s ≡ text)) }
     ensures same_capacity { K.Keeper.capacity keeper.new ≡ K.Keeper.capacity keeper.old }

@@ -22,7 +22,7 @@ module _ {G : ℕ → Type 0} (dec : (g : ℕ) → Dec (G g)) (k : ℕ) (below :
       (λ u. (u.position, λ r. u.none r.0 r.1.0 r.1.1))
       (dec_both (dec_lt p n) (dec_not (dec_some (λ g. dec_both (dec g) (dec_in p g)) k (λ g r. below g r.0))))
 
-  dec_share : (p q : ℕ) → Dec (Share G p q)
+  pub dec_share : (p q : ℕ) → Dec (Share G p q)
   dec_share p q =
       map_dec (λ r. record { group = r.0; told = r.1.told; left = r.1.left; right = r.1.right })
       (λ s. (s.group, record { told = s.told; left = s.left; right = s.right }))

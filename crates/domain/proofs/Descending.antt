@@ -13,7 +13,7 @@ use Rattle.std.proofs.lemmas.List.Elements.{Contains-get_or, at_from_Contains}
 use Rattle.std.proofs.lemmas.Bool.{cases_eq, cases_Bool, eq-eqb, eqb-true, false≢true}
 use Rattle.domain.proofs.Lists.{Listed, contains, listed}
 use Rattle.domain.proofs.Lists.Listed.{here, there}
-use Rattle.domain.specs.Masks.{Within, contained}
+use Rattle.domain.specs.Masks.{Within, is_within}
 use Rattle.domain.specs.Subsets.{down_from, subsets_from}
 use Rattle.domain.proofs.Bits.{and_within, within_and, within_le, in_first}
 use Rattle.domain.proofs.Walk.{next_subset}
@@ -41,12 +41,12 @@ subsets_next u (suc k) w some =
     let same : suc k - 1 ≡ k = omega arith in
     rw (same, eq-eqb (bit_and (suc k) u) (suc k) (within_and w))
     (ap (λ (rest : List ℕ). suc k ∷ rest)
-    (skipped (λ g. contained g u) k (bit_and k u) (within_le (record { each = λ p i. in_first k u i })) between))
+    (skipped (λ g. is_within g u) k (bit_and k u) (within_le (record { each = λ p i. in_first k u i })) between))
   where
-    between : (t : ℕ) → bit_and k u < t → t ≤ k → contained t u ≡ false
-    between t l h = go (cases_Bool (contained t u))
+    between : (t : ℕ) → bit_and k u < t → t ≤ k → is_within t u ≡ false
+    between t l h = go (cases_Bool (is_within t u))
       where
-        go : (contained t u ≡ true) ⊎ (contained t u ≡ false) → contained t u ≡ false
+        go : (is_within t u ≡ true) ⊎ (is_within t u ≡ false) → is_within t u ≡ false
         go (inr e) = e
         go (inl e) =
             absurd
@@ -59,9 +59,9 @@ subsets_next u (suc k) w some =
 pub listed_subset : {g : ℕ} (u s : ℕ) → Listed g (subsets_from u s) → (0 < g) × Within g u
 unfolding subsets_from down_from
 listed_subset {g} u zero l = elim l [ ]
-listed_subset {g} u (suc k) l = go (contained (suc k) u) refl l (λ m. listed_subset u k m)
+listed_subset {g} u (suc k) l = go (is_within (suc k) u) refl l (λ m. listed_subset u k m)
   where
-    go : {g : ℕ} (b : Bool) → contained (suc k) u ≡ b → Listed g (cond b (suc k ∷ subsets_from u k) (subsets_from u k))
+    go : {g : ℕ} (b : Bool) → is_within (suc k) u ≡ b → Listed g (cond b (suc k ∷ subsets_from u k) (subsets_from u k))
         → (Listed g (subsets_from u k) → (0 < g) × Within g u) → (0 < g) × Within g u
     go true e here rest = (omega arith, and_within (suc k) u (eqb-true (bit_and (suc k) u) (suc k) e))
     go true e (there m) rest = rest m
@@ -70,9 +70,9 @@ listed_subset {g} u (suc k) l = go (contained (suc k) u) refl l (λ m. listed_su
 pub subset_listed : {g : ℕ} (u s : ℕ) → 0 < g → g ≤ s → Within g u → Listed g (subsets_from u s)
 unfolding subsets_from down_from
 subset_listed {g} u zero some h w = absurd (omega arith)
-subset_listed {g} u (suc k) some h w = go (cases_eq g (suc k)) (contained (suc k) u) refl (λ h. subset_listed u k some h w)
+subset_listed {g} u (suc k) some h w = go (cases_eq g (suc k)) (is_within (suc k) u) refl (λ h. subset_listed u k some h w)
   where
-    go : (g ≡ suc k) ⊎ (g ≡ suc k → ⊥) → (b : Bool) → contained (suc k) u ≡ b → (g ≤ k → Listed g (subsets_from u k))
+    go : (g ≡ suc k) ⊎ (g ≡ suc k → ⊥) → (b : Bool) → is_within (suc k) u ≡ b → (g ≤ k → Listed g (subsets_from u k))
         → Listed g (cond b (suc k ∷ subsets_from u k) (subsets_from u k))
     go (inl e) true q rest = subst (λ m. Listed m (suc k ∷ subsets_from u k)) (sym e) here
     go (inl e) false q rest = absurd (false≢true (sym q ∙ eq-eqb (bit_and (suc k) u) (suc k) (within_and (subst (λ m. Within m u) e w))))

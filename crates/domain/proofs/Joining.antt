@@ -7,7 +7,7 @@ use Rattle.domain.proofs.Lists.{Listed, contains, listed}
 use Rattle.domain.proofs.Lists.Listed.{here, there}
 use Rattle.domain.specs.Groups.{IsGround}
 use Rattle.domain.specs.Joining.{Joined, LawfulListing}
-use Rattle.domain.specs.Masks.{In, contained, without}
+use Rattle.domain.specs.Masks.{In, is_within, without}
 use Rattle.domain.specs.Refusals.{first_of}
 use Rattle.domain.specs.Requests.{ascend, held_by, ill_marks, reaches, bytes_for, join_tests}
 use Rattle.domain.specs.Tables.{holds_bit, TableGroup, told_of}
@@ -107,7 +107,7 @@ pub fold_held : (a : ℕ) (hs : List ℕ) → fold (λ m h. bit_or m h) a hs ≡
 fold_held a [] = sym (or_zero_r a)
 fold_held a (h ∷ hs) = fold_held (bit_or a h) hs ∙ or_assoc a h (held_by hs)
 
-within_contained : (a b : ℕ) → contained a b ≡ true → (p : ℕ) → In p a → In p b
+within_contained : (a b : ℕ) → is_within a b ≡ true → (p : ℕ) → In p a → In p b
 within_contained a b h p i = (and_within a b (eqb-true (bit_and a b) a h)).each p i
 
 -- they are a description of their own
@@ -119,8 +119,8 @@ listing_lawful n other ascends ill =
     let hs = other.groups in
     let m = or_parts (reaches n f || reaches n l) _ ill in
     let r = or_parts (reaches n f) _ m.0 in
-    let k = and_parts (contained f l) _ (not-false _ m.1) in
-    let e = and_parts (contained (without (2 ^ n - 1) (held_by hs)) l) _ k.1 in
+    let k = and_parts (is_within f l) _ (not-false _ m.1) in
+    let e = and_parts (is_within (without (2 ^ n - 1) (held_by hs)) l) _ k.1 in
     record {
       in_range = λ g c. ascend_range n 0 hs ascends g (listed hs g c);
       marks = record {

@@ -16,8 +16,8 @@ pub record Meets (a b : ℕ) : Type 0 where
   pub right : In place b
 
 -- the test whether every position of a is one of b
-abbrev pub contained : ℕ → ℕ → Bool
-contained a b = bit_and a b == a
+abbrev pub is_within : ℕ → ℕ → Bool
+is_within a b = bit_and a b == a
 
 -- the positions of a that are not in b
 abbrev pub without : ℕ → ℕ → ℕ

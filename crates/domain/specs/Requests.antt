@@ -1,6 +1,6 @@
 -- What a description refuses, as lists of tests in their order.
 use Rattle.std.specs.Prelude.{◌≡◌, ℕ, ◌-◌, ◌^◌, Bool, true, not, ◌&&◌, ◌||◌, List, [], ◌∷◌, Some, None, Ok, Err, Option, Result, ◌==◌, bit_or, count_ones, nat_le, nat_lt}
-use Rattle.domain.specs.Masks.{contained, without}
+use Rattle.domain.specs.Masks.{is_within, without}
 use Rattle.domain.specs.Refusals.{Test}
 use Rattle.domain.specs.declared.limits.TheConstants.{MOST_POSITIONS, TABLE_BYTES}
 use Rattle.domain.specs.declared.listing.Listing.{Listing}
@@ -23,7 +23,7 @@ reaches n m = nat_le (2 ^ n) m
 -- and does not hold exactly one position, once
 abbrev pub ill_term : Term → Bool
 ill_term t =
-    not (contained t.repeated t.held)
+    not (is_within t.repeated t.held)
     || (t.bare && not (count_ones t.held == 1 && t.repeated == 0))
 
 abbrev pub open_tests : ℕ → List Test
@@ -66,7 +66,7 @@ held_by (g ∷ gs) = bit_or g (held_by gs)
 abbrev pub ill_marks : ℕ → Marks → ℕ → Bool
 ill_marks n m held =
     (reaches n m.free || reaches n m.linear)
-    || not (contained m.free m.linear && (contained (without (2 ^ n - 1) held) m.linear && contained m.free held))
+    || not (is_within m.free m.linear && (is_within (without (2 ^ n - 1) held) m.linear && is_within m.free held))
 
 -- a join with another description, with so many bytes of scratch
 abbrev pub join_tests : ℕ → Listing (List ℕ) → ℕ → List Test

@@ -44,12 +44,12 @@ abbrev mutual
   pub summary : Tree → Term
   summary (position p) = bare_term p
   summary (constant f) = constant_term
-  summary (compound f args) = gathered args constant_term
+  summary (compound f args) = sum_onto args constant_term
 
   -- the arguments, each beside those before it
-  pub gathered : Args → Term → Term
-  gathered none before = before
-  gathered (more t args) before = gathered args (beside before (summary t))
+  pub sum_onto : Args → Term → Term
+  sum_onto none before = before
+  sum_onto (more t args) before = sum_onto args (beside before (summary t))
 
 abbrev pub is_position : Tree → Bool
 is_position (position p) = true

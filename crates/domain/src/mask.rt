@@ -1,5 +1,5 @@
 //! Sets of positions as masks: position p is the bit p.
-ghost use Rattle.domain.specs.Masks.{In, Meets, Loses, contained, without};
+ghost use Rattle.domain.specs.Masks.{In, Meets, Loses, is_within, without};
 ghost use Rattle.std.specs.Prelude.{◌≡◌, ◌↔◌, ◌^◌, ◌<◌, ◌≤◌, IsTrue};
 
 /// The mask of one position. One of 16 or more is in no mask.
@@ -39,7 +39,7 @@ pub fn meets(a: u16, b: u16) -> bool
 
 /// Whether every position of a is one of b.
 pub fn within(a: u16, b: u16) -> bool
-    ensures { result ≡ contained a b }
+    ensures { result ≡ is_within a b }
 {
     a & b == a
 }

@@ -1,7 +1,7 @@
 //! The calls of a list keeper.
 ghost use Rattle.std.specs.Prelude.{◌≡◌, length, take, Some, None, IfOk, IfErr};
 ghost use Rattle.domain.specs.declared.refusal.Refusal.TheVariants.{Order};
-ghost use Rattle.keeper.specs.Calls.{fault_of};
+ghost use Rattle.keeper.specs.Calls.{fault_of, unopened};
 ghost use Rattle.list_keeper.specs.Keeping.{Kept};
 ghost use Rattle.list_keeper.specs.ListKeepers.{told, told_lawful, capacity_of, IsOver, KeepsList};
 
@@ -17,7 +17,7 @@ use keeper::{Keeper, KeeperFault, WrittenOut};
 impl<'a> ListKeeper<'a> {
     /// A keeper over a list, not opened yet. The list stays as it is.
     pub fn new(list: &'a mut [u16]) -> ListKeeper<'a>
-        ensures closed { (told result).n ≡ 0 }
+        ensures closed { told result ≡ unopened }
         ensures over { IsOver result list.entry }
     {
         ListKeeper { head: None, list }

@@ -8,7 +8,7 @@ use Rattle.domain.specs.declared.refusal.Refusal.TheVariants.{Depth}
 use Rattle.reader.specs.Reading.{Read, ◌>>=◌, fault}
 use Rattle.reader.specs.Records.{record_at}
 use Rattle.domain.specs.Terms.{Tree, Args, compound, none, more, summary, constant_term, beside}
-use Rattle.reader.specs.Trees.{args_by, args_of, compound_of, tree_of, summed, onto}
+use Rattle.reader.specs.Trees.{args_by, args_of, compound_of, tree_of, sum_of, onto}
 
 -- what the terms from a place on make of what is gathered so far is the whole
 pub record From (bytes : List ℕ) (tree : Record → Read Tree) (all : Term) (at end : ℕ) (whole : Read Term) : Type 0 where
@@ -20,11 +20,11 @@ onto_more : (t : Tree) (all : Term) (read : Read Args) → onto all (read >>= λ
 onto_more t all (Ok ts) = refl
 onto_more t all (Err e) = refl
 
-onto_compound : (f : ℕ) (read : Read Args) → onto constant_term read ≡ summed (read >>= λ args. Ok (compound f args))
+onto_compound : (f : ℕ) (read : Read Args) → onto constant_term read ≡ sum_of (read >>= λ args. Ok (compound f args))
 onto_compound f (Ok args) = refl
 onto_compound f (Err e) = refl
 
-pub deeper : (bytes : List ℕ) (depth : ℕ) (r : Record) → 0 < depth → onto constant_term (args_of bytes (tree_of bytes (depth - 1)) r) ≡ summed (compound_of bytes depth r)
+pub deeper : (bytes : List ℕ) (depth : ℕ) (r : Record) → 0 < depth → onto constant_term (args_of bytes (tree_of bytes (depth - 1)) r) ≡ sum_of (compound_of bytes depth r)
 unfolding compound_of
 deeper bytes zero r h = absurd (omega arith)
 deeper bytes (suc depth) r h =
@@ -71,15 +71,15 @@ module _ (bytes : List ℕ) (tree : Record → Read Tree) where
           let k = turned lt from in
           (k.0, k.1, ap (λ x. onto all (after_record k.0 end x)) is ∙ k.2)
 
-      stop_at : (e : ReaderFault) (read : Read Tree) → tree r ≡ read → Err e ≡ summed read → From bytes tree all at end whole → Err e ≡ whole
+      stop_at : (e : ReaderFault) (read : Read Tree) → tree r ≡ read → Err e ≡ sum_of read → From bytes tree all at end whole → Err e ≡ whole
       stop_at e (Ok t) same is from = absurd (let z : ◌≡◌ {A = ℕ} 0 1 = cc in omega arith)
       stop_at e (Err d) same is from =
           let k = at_tree from in is ∙ sym (ap (λ x. onto all (after_tree k.0 r.end end x)) same) ∙ k.2
 
-      pub stop_tree : (e : ReaderFault) → Err e ≡ summed (tree r) → From bytes tree all at end whole → Err e ≡ whole
+      pub stop_tree : (e : ReaderFault) → Err e ≡ sum_of (tree r) → From bytes tree all at end whole → Err e ≡ whole
       stop_tree e = stop_at e (tree r) refl
 
-      next_at : (u : Term) (read : Read Tree) → tree r ≡ read → Ok u ≡ summed read → at < r.end → From bytes tree all at end whole → From bytes tree (beside all u) r.end end whole
+      next_at : (u : Term) (read : Read Tree) → tree r ≡ read → Ok u ≡ sum_of read → at < r.end → From bytes tree all at end whole → From bytes tree (beside all u) r.end end whole
       next_at u (Ok t) same is further from =
           let k = at_tree from in
           let v : summary t ≡ u = cc in
@@ -94,5 +94,5 @@ module _ (bytes : List ℕ) (tree : Record → Read Tree) where
           }
       next_at u (Err d) same is further from = absurd (let z : ◌≡◌ {A = ℕ} 0 1 = cc in omega arith)
 
-      pub next_from : (u : Term) → Ok u ≡ summed (tree r) → at < r.end → From bytes tree all at end whole → From bytes tree (beside all u) r.end end whole
+      pub next_from : (u : Term) → Ok u ≡ sum_of (tree r) → at < r.end → From bytes tree all at end whole → From bytes tree (beside all u) r.end end whole
       next_from u = next_at u (tree r) refl

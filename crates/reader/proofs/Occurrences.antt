@@ -12,9 +12,9 @@ use Rattle.reader.specs.declared.record.Record.{Record}
 use Rattle.reader.specs.Reading.{Read, ◌>>=◌, refuse}
 use Rattle.reader.specs.Payloads.{bind_of, SumsTerm}
 use Rattle.reader.specs.Records.{record_at, payload, position_at}
-use Rattle.reader.specs.Trees.{tree_of, summed, term_of, SumsUp}
+use Rattle.reader.specs.Trees.{tree_of, sum_of, term_of, SumsUp}
 use Rattle.reader.specs.declared.term.TheConstants.{DEEPEST}
-use Rattle.domain.specs.Terms.{Tree, Args, position, constant, compound, none, more, occurrences, occurrences_in, constant_term, beside, summary, gathered, is_position, Sums}
+use Rattle.domain.specs.Terms.{Tree, Args, position, constant, compound, none, more, occurrences, occurrences_in, constant_term, beside, summary, sum_onto, is_position, Sums}
 
 -- the digits at p are those of a term that holds the position p n times
 record Digits (p n : ℕ) (t : Term) : Type 0 where
@@ -43,13 +43,13 @@ mutual
   counted (constant f) p = digits_constant p
   counted (compound f args) p = rw zero-add at (counted_args args p 0 constant_term (digits_constant p))
 
-  counted_args : (args : Args) (p n : ℕ) (before : Term) → Digits p n before → Digits p (n + occurrences_in args p) (gathered args before)
+  counted_args : (args : Args) (p n : ℕ) (before : Term) → Digits p n before → Digits p (n + occurrences_in args p) (sum_onto args before)
   counted_args none p n before h = rw add-zero h
   counted_args (more t args) p n before h =
       rw add_assoc at
       (counted_args args p (n + occurrences t p) (beside before (summary t)) (digits_beside p n (occurrences t p) before (summary t) h (counted t p)))
 
-not_bare : (args : Args) (before : Term) → before.bare ≡ false → (gathered args before).bare ≡ false
+not_bare : (args : Args) (before : Term) → before.bare ≡ false → (sum_onto args before).bare ≡ false
 not_bare none before h = h
 not_bare (more t args) before h = not_bare args (beside before (summary t)) refl
 
@@ -65,7 +65,7 @@ sums tree = (
   (λ p. let h = counted tree p in ((λ i. omega (arith, i.digit)), (λ n. record { digit = omega arith }))),
 )
 
-sums_read : (read : Read Tree) → IfOk (summed read) (λ t. (tree : Tree) × (read ≡ Ok tree) × Sums tree t)
+sums_read : (read : Read Tree) → IfOk (sum_of read) (λ t. (tree : Tree) × (read ≡ Ok tree) × Sums tree t)
 sums_read (Ok tree) = (tree, refl, sums tree)
 sums_read (Err e) = tt
 

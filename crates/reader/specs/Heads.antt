@@ -30,3 +30,7 @@ sheet_of r = r.record.sheet.now
 
 abbrev pub head_of : StepRecord → Head
 head_of r = record { frame = r.record.frame; kind = r.kind }
+
+-- the place behind the record
+abbrev pub place_after : Head → ℕ
+place_after h = h.frame.end

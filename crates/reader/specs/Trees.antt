@@ -9,7 +9,7 @@ use Rattle.reader.specs.declared.term.TermKind.TheVariants.{Position, Constant, 
 use Rattle.reader.specs.Reading.{Read, ◌>>=◌, fault, refuse}
 use Rattle.reader.specs.TermKinds.{term_kind}
 use Rattle.reader.specs.Records.{pair_at, record_at, payload, position_at}
-use Rattle.domain.specs.Terms.{Tree, Args, position, constant, compound, none, more, summary, gathered, Sums}
+use Rattle.domain.specs.Terms.{Tree, Args, position, constant, compound, none, more, summary, sum_onto, Sums}
 
 abbrev pub position_of : List ℕ → Record → Read Tree
 position_of bytes r =
@@ -61,15 +61,15 @@ abbrev pub tree_at : List ℕ → ℕ → ℕ → ℕ → Read Tree
 tree_at bytes depth at end = record_at bytes at end >>= tree_of bytes depth
 
 -- what a bind has to know of the term that is read
-abbrev pub summed : Read Tree → Read Term
-summed read = read >>= λ tree. Ok (summary tree)
+abbrev pub sum_of : Read Tree → Read Term
+sum_of read = read >>= λ tree. Ok (summary tree)
 
 -- the same of terms that are read, beside what came before them
 abbrev pub onto : Term → Read Args → Read Term
-onto before read = read >>= λ args. Ok (gathered args before)
+onto before read = read >>= λ args. Ok (sum_onto args before)
 
 abbrev pub term_of : List ℕ → Record → Read Term
-term_of bytes r = summed (tree_of bytes DEEPEST r)
+term_of bytes r = sum_of (tree_of bytes DEEPEST r)
 
 -- the law of what is read: it sums up the term that the bytes hold
 abbrev pub SumsUp : List ℕ → Record → Read Term → Type 0

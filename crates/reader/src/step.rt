@@ -5,7 +5,7 @@ ghost use Rattle.sheet.specs.Faults.{CanRefuse};
 ghost use Rattle.sheet.specs.Steps.{LiesOn};
 ghost use Rattle.reader.specs.declared.record.TheConstants.{HEAD};
 ghost use Rattle.reader.specs.declared.term.TheConstants.{DEEPEST};
-ghost use Rattle.reader.specs.Heads.{head_at, head_of, sheet_of};
+ghost use Rattle.reader.specs.Heads.{head_at, head_of, place_after, sheet_of};
 ghost use Rattle.reader.specs.Payloads.{open_of, bind_of, join_of, forget_of, ask_of, end_of, step_of, SumsTerm};
 
 use crate::record::SheetRecord;
@@ -30,8 +30,8 @@ impl<'a> StepRecord<'a> {
         ensures head { IfOk result (λ r. Ok (head_of r) ≡ head_at sheet.now at) }
         ensures fault { IfErr result (λ f. Err f ≡ head_at sheet.now at) }
         ensures refuses { IfErr result (λ f. CanRefuse Reader f.refusal) }
-        ensures onward { IfOk result (λ r. at < (head_of r).frame.end) }
-        ensures inside { IfOk result (λ r. (head_of r).frame.end ≤ length sheet.now) }
+        ensures onward { IfOk result (λ r. at < place_after (head_of r)) }
+        ensures inside { IfOk result (λ r. place_after (head_of r) ≤ length sheet.now) }
         ensures same_sheet { IfOk result (λ r. sheet_of r ≡ sheet.now) }
     {
         let record = SheetRecord::read(sheet, at, sheet.len())?;
@@ -48,7 +48,7 @@ impl<'a> StepRecord<'a> {
 
     /// Where the record ends on the sheet.
     pub fn end(&self) -> usize
-        ensures { result ≡ (head_of self.now).frame.end }
+        ensures { result ≡ place_after (head_of self.now) }
     {
         self.record.frame.end
     }

@@ -5,7 +5,7 @@ ghost use Rattle.domain.specs.Terms.{constant_term};
 ghost use Rattle.domain.specs.declared.refusal.Refusal.TheVariants.{Kind};
 ghost use Rattle.reader.specs.Records.{payload};
 ghost use Rattle.reader.specs.TermKinds.{term_kind};
-ghost use Rattle.reader.specs.Trees.{position_of, constant_of, compound_by, compound_of, args_of, tree_of, summed, onto, term_of, SumsUp};
+ghost use Rattle.reader.specs.Trees.{position_of, constant_of, compound_by, compound_of, args_of, tree_of, sum_of, onto, term_of, SumsUp};
 
 use crate::record::SheetRecord;
 use domain::refusal::Refusal;
@@ -52,7 +52,7 @@ impl SheetRecord<'_> {
     // A term in which `depth` compounds may still nest.
     #[cycle(arguments_compound_nested)]
     fn nested(&self, depth: u8) -> Result<Term, ReaderFault>
-        ensures { result ≡ summed (tree_of self.now.sheet.now depth self.now.frame) }
+        ensures { result ≡ sum_of (tree_of self.now.sheet.now depth self.now.frame) }
     {
         match self.frame.kind_of::<TermKind>()? {
             TermKind::Position => self.position(),
@@ -62,14 +62,14 @@ impl SheetRecord<'_> {
     }
 
     fn position(&self) -> Result<Term, ReaderFault>
-        ensures { result ≡ summed (position_of self.now.sheet.now self.now.frame) }
+        ensures { result ≡ sum_of (position_of self.now.sheet.now self.now.frame) }
     {
         self.expect(self.len() == 1)?;
         Ok(Term::position(self.position_at(0)?))
     }
 
     fn constant(&self) -> Result<Term, ReaderFault>
-        ensures { result ≡ summed (constant_of self.now.sheet.now self.now.frame) }
+        ensures { result ≡ sum_of (constant_of self.now.sheet.now self.now.frame) }
     {
         self.expect(self.len() == 2)?;
         Ok(Term::over(0, 0))
@@ -79,7 +79,7 @@ impl SheetRecord<'_> {
     #[cycle(arguments_compound_nested)]
     #[tactic(auto, using(crate::proofs::Arguments::too_deep, crate::proofs::Arguments::deeper))]
     fn compound(&self, depth: u8) -> Result<Term, ReaderFault>
-        ensures { result ≡ summed (compound_by self.now.sheet.now
+        ensures { result ≡ sum_of (compound_by self.now.sheet.now
             (compound_of self.now.sheet.now depth) self.now.frame) }
     {
         self.expect(self.len() >= 6)?;

@@ -16,7 +16,7 @@ use Rattle.sheet.specs.declared.steps.TheConstants.{LONGEST_SHEET}
 use Rattle.runner.proofs.Scripts.{script_turn, script_end, some_room, room_left, groups_fit}
 use Rattle.runner.specs.Following.{next_at, step_at, reading_of, move_of}
 use Rattle.runner.specs.Laying.{Laid, nothing, another, Halts, used, unlawful, full, steps_then, ReadsLaid}
-use Rattle.runner.specs.Running.{Script, broken, follows, script_from, lacks_room, closing}
+use Rattle.runner.specs.Running.{Script, broken, follows, script_from, lacks_room, script_at_end}
 use Rattle.runner.specs.declared.next.Next.{Next}
 use Rattle.runner.specs.declared.state.State.{State}
 use Rattle.runner.specs.declared.state.State.TheVariants.{New, Opened, Ended}
@@ -154,7 +154,7 @@ module _ (sheet : List ℕ) (groups : ℕ) where
 
       at_place : Onward turns marks → (at < length sheet) ⊎ (length sheet ≤ at) → Found marks at state
       at_place more (inl here) = reads more here (next_at sheet state at) refl
-      at_place more (inr past) = stopped marks at state (closing state (length sheet)) (used past)
+      at_place more (inr past) = stopped marks at state (script_at_end state (length sheet)) (used past)
 
 pub reads_laid : (sheet : List ℕ) (groups room : ℕ) → ReadsLaid sheet groups room
 reads_laid sheet groups room =

@@ -17,7 +17,7 @@ use Rattle.sheet.specs.declared.steps.TheConstants.{LONGEST_SHEET}
 use Rattle.runner.proofs.Scripts.{some_room, room_left, script_turn, script_end}
 use Rattle.runner.specs.Following.{next_at}
 use Rattle.runner.specs.Playing.{Plays, ends, breaks, stops, goes, Ran, mark_of}
-use Rattle.runner.specs.Running.{Script, broken, follows, script_from, script_of, lacks_room, turn, closing}
+use Rattle.runner.specs.Running.{Script, broken, follows, script_from, script_of, lacks_room, turn, script_at_end}
 use Rattle.runner.specs.Serving.{Serves}
 use Rattle.runner.specs.Settings.{Setting, Transition}
 use Rattle.runner.specs.Turning.{Turns, Hands, Notes, moved_to, outcome_in}
@@ -182,7 +182,7 @@ module _ (s : Setting) (before : Told) (marks₀ : List StepMark) where
       → Ran s (record { before = before; after = d }) marks₀ marks (outcome_in c.state c.step c.at)
   runs_end c d marks w past = go w.turns refl
     where
-      closes : (state : State) → Plays (Serves s) (closing state c.at) c.step d [] (outcome_in state c.step c.at) d
+      closes : (state : State) → Plays (Serves s) (script_at_end state c.at) c.step d [] (outcome_in state c.step c.at) d
       closes New = breaks
       closes Opened = breaks
       closes Ended = ends
@@ -192,8 +192,8 @@ module _ (s : Setting) (before : Told) (marks₀ : List StepMark) where
       go (suc turns) t =
           let inside : c.at ≤ length s.sheet = w.within in
           let same : length s.sheet ≡ c.at = omega arith in
-          let script : script_from w.turns s.sheet s.groups (length marks₀ - c.step) c.state c.at ≡ closing c.state c.at =
-          rw t (script_end s.sheet s.groups turns (length marks₀ - c.step) c.at c.state past ∙ ap (closing c.state) same) in
+          let script : script_from w.turns s.sheet s.groups (length marks₀ - c.step) c.state c.at ≡ script_at_end c.state c.at =
+          rw t (script_end s.sheet s.groups turns (length marks₀ - c.step) c.at c.state past ∙ ap (script_at_end c.state) same) in
           record {
             written = w.written;
             played = subst (λ (l : List StepMark). Plays (Serves s) (script_of s.sheet s.groups (length marks₀)) 0 before l (outcome_in c.state c.step c.at) d)

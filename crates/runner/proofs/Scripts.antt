@@ -5,7 +5,7 @@ use Rattle.sheet.specs.Steps.{group_count}
 use Rattle.sheet.specs.declared.fault.RunnerFault.{RunnerFault}
 use Rattle.sheet.specs.declared.steps.Step.{Step}
 use Rattle.runner.specs.Following.{next_at}
-use Rattle.runner.specs.Running.{script_from, lacks_room, turn, closing}
+use Rattle.runner.specs.Running.{script_from, lacks_room, turn, script_at_end}
 use Rattle.runner.specs.declared.next.Next.{Next}
 use Rattle.runner.specs.declared.state.State.{State}
 
@@ -25,6 +25,6 @@ unfolding script_from
 script_turn sheet groups turns room at state next h e = rw (lt-ltb at (length sheet) h, e)
 
 pub script_end : (sheet : List ℕ) (groups turns room at : ℕ) (state : State) → length sheet ≤ at
-    → script_from (suc turns) sheet groups room state at ≡ closing state (length sheet)
+    → script_from (suc turns) sheet groups room state at ≡ script_at_end state (length sheet)
 unfolding script_from
 script_end sheet groups turns room at state h = rw (le-ltb at (length sheet) h)

@@ -8,7 +8,7 @@ use Rattle.agreement.proofs.Rules.{made_lawful}
 use Rattle.coverage.proofs.ChangeLaws.{change_made, one_made, one_new}
 use Rattle.coverage.proofs.CoreLeast.{dec_group, dec_holding}
 use Rattle.coverage.proofs.Cover.{alike_refl}
-use Rattle.coverage.proofs.DecidedTerms.{dec_ground}
+use Rattle.coverage.proofs.DecidedTerms.{dec_ground, dec_share}
 use Rattle.coverage.proofs.ExistsSteps.{new_made}
 use Rattle.coverage.proofs.MostGroups.{most_fit}
 use Rattle.coverage.proofs.Searching.{decides_yes, decides_no, dec_in, dec_some}
@@ -108,12 +108,6 @@ answers_some : (o : Option Refusal) (P : Type 0) → (o ≡ None → Dec P) → 
 answers_some (Some e) P dec = (Err (fault_of e), refl)
 answers_some None P dec = elim (dec refl) [ yes p ↦ (Ok true, decides_yes p) | no n ↦ (Ok false, decides_no n) ]
 
-dec_share : (d : Told) → Lawful d → (p q : ℕ) → Dec (Share (Group d) p q)
-dec_share d law p q =
-    map_dec (λ r. record { group = r.0; told = r.1.told; left = r.1.left; right = r.1.right })
-    (λ s. (s.group, record { told = s.told; left = s.left; right = s.right }))
-    (dec_some (dec_holding (dec_group d) p q) (2 ^ d.n) (λ g h. (law.in_range g h.told).1))
-
 asks_some : (q : Question) (d : Told) → Sound d → (r : Result Bool KeeperFault) × Asks d q r
 asks_some (Ground p) d sound =
     answers_some (ask_refusal d p) (IsGround d.n (Group d) p)
@@ -122,7 +116,7 @@ asks_some (Free p) d sound = answers_some (ask_refusal d p) (IsFree d p) (λ non
 asks_some (Linear p) d sound = answers_some (ask_refusal d p) (IsLinear d p) (λ none. dec_in p d.marks.linear)
 asks_some (Pair p q) d sound =
     answers_some (pair_refusal d p q) (Share (Group d) p q)
-    (λ none. dec_share d (there_is d (first_of (pair_tests d.n p q)) sound none) p q)
+    (λ none. dec_share (dec_group d) (2 ^ d.n) (λ g h. ((there_is d (first_of (pair_tests d.n p q)) sound none).in_range g h).1) p q)
 
 module _ (scratch : ℕ) (sheet : List ℕ) where
   settles_some : (step : Step) (d : Told) → Sound d

@@ -7,7 +7,7 @@ use Rattle.sheet.specs.declared.fault.RunnerFault.TheVariants.{Reader, Runner}
 use Rattle.sheet.specs.declared.steps.Step.{Step}
 use Rattle.sheet.specs.declared.steps.TheConstants.{LONGEST_SHEET}
 use Rattle.runner.specs.Following.{next_at}
-use Rattle.runner.specs.Running.{Script, broken, follows, closing, lacks_room, script_of}
+use Rattle.runner.specs.Running.{Script, broken, follows, script_at_end, lacks_room, script_of}
 use Rattle.runner.specs.declared.next.Next.{Next}
 use Rattle.runner.specs.declared.state.State.{State}
 use Rattle.runner.specs.declared.state.State.TheVariants.{New}
@@ -24,7 +24,7 @@ pub data Laid (sheet : List ℕ) (groups : ℕ) : List (ℕ × Step) → ℕ →
 -- what comes where no lawful record lies, with room for so many marks more
 pub data Halts (sheet : List ℕ) (groups marks at : ℕ) (state : State) : Script → Type 0 where
   -- the bytes are used up
-  used : length sheet ≤ at → Halts sheet groups marks at state (closing state (length sheet))
+  used : length sheet ≤ at → Halts sheet groups marks at state (script_at_end state (length sheet))
   -- the record there is none, or may not come there
   unlawful : {f : RunnerFault} → at < length sheet → next_at sheet state at ≡ Err f → Halts sheet groups marks at state (broken at f)
   -- its groups or its mark have no room

@@ -19,10 +19,10 @@ pub data Script : Type 0 where
   follows : ℕ → Step → Script → Script
 
 -- the sheet's bytes are used up: an end record must have come
-abbrev pub closing : State → ℕ → Script
-closing New at = broken at (Reader (record { refusal = Truncated; place = at }))
-closing Opened at = broken at (Reader (record { refusal = Truncated; place = at }))
-closing Ended at = finished
+abbrev pub script_at_end : State → ℕ → Script
+script_at_end New at = broken at (Reader (record { refusal = Truncated; place = at }))
+script_at_end Opened at = broken at (Reader (record { refusal = Truncated; place = at }))
+script_at_end Ended at = finished
 
 -- with room for so many marks and so many groups, there is none for the step's mark or for its groups
 abbrev pub lacks_room : (marks groups : ℕ) → Step → Bool
@@ -38,11 +38,11 @@ turn rest groups at (Ok next) marks =
 -- the script from a place on, with room for so many groups at a time and so many marks in all;
 -- a record has four bytes or more, so that more turns than bytes are never wanted
 unfoldable pub script_from : ℕ → List ℕ → (groups marks : ℕ) → State → ℕ → Script
-script_from zero sheet groups marks state at = closing state at
+script_from zero sheet groups marks state at = script_at_end state at
 script_from (suc turns) sheet groups marks state at =
     (if nat_lt at (length sheet)
     then turn (script_from turns sheet groups) groups at (next_at sheet state at) marks
-    else closing state (length sheet))
+    else script_at_end state (length sheet))
 
 -- the script of a whole sheet, if it is not too long
 abbrev pub script_of : List ℕ → (groups marks : ℕ) → Script

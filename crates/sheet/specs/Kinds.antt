@@ -22,12 +22,12 @@ step_name Ask = codes "ask"
 step_name End = codes "end"
 
 -- the first of some kinds that has the number
-abbrev pub numbered : {K : Type 0} → (K → ℕ) → List K → ℕ → Option K
-numbered number [] n = None
-numbered number (k ∷ ks) n = (if n == number k then Some k else numbered number ks n)
+abbrev pub of_number : {K : Type 0} → (K → ℕ) → List K → ℕ → Option K
+of_number number [] n = None
+of_number number (k ∷ ks) n = (if n == number k then Some k else of_number number ks n)
 
 abbrev pub step_kind : ℕ → Option StepKind
-step_kind n = numbered step_number (Open ∷ (Bind ∷ (Join ∷ (Forget ∷ (Ask ∷ (End ∷ [])))))) n
+step_kind n = of_number step_number (Open ∷ (Bind ∷ (Join ∷ (Forget ∷ (Ask ∷ (End ∷ [])))))) n
 
 -- the kind of a step that makes this change
 abbrev pub change_kind : {G : Type 0} → Change G → StepKind

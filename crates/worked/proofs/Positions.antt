@@ -5,7 +5,7 @@ use lib.Bits.{bit_and, bit_or}
 use Rattle.std.proofs.lemmas.Bool.{or_cases, or_left, or_right, and_parts, and_from, eqb-true, eq-eqb, ltb-true, lt-ltb, both_ways, not-true, not_from_false, cases_Bool}
 use Rattle.domain.proofs.Bits.{none_in, in_left, in_right, in_either, in_both, in_first, in_second, in_lacking, lacking_in, in_all, all_in, within_and, and_within, meets_and, and_meets}
 use Rattle.domain.proofs.Lists.{Listed, here, there}
-use Rattle.domain.specs.Masks.{In, Within, Meets, contained, without}
+use Rattle.domain.specs.Masks.{In, Within, Meets, is_within, without}
 use Rattle.domain.specs.Requests.{held_by}
 use Rattle.worked.proofs.Gathering.{Lists, Says, says_not}
 
@@ -25,7 +25,7 @@ pub says_touches : (a b : ℕ) → Says (touches a b) (Meets a b)
 unfolding touches
 says_touches a b = record { yes = λ e. and_meets a b (ltb-true 0 (bit_and a b) e); no = λ m. lt-ltb 0 (bit_and a b) (meets_and m) }
 
-pub says_contained : (a b : ℕ) → Says (contained a b) (Within a b)
+pub says_contained : (a b : ℕ) → Says (is_within a b) (Within a b)
 says_contained a b = record { yes = λ e. and_within a b (eqb-true (bit_and a b) a e); no = λ w. eq-eqb (bit_and a b) a (within_and w) }
 
 pub says_both : {a b : Bool} {P Q : Type 0} → Says a P → Says b Q → Says (a && b) (P × Q)

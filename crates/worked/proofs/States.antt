@@ -2,7 +2,7 @@
 use Rattle.std.proofs.Common.{ℕ, zero, suc, ◌-◌, ◌^◌, Bool, true, false, not, ◌&&◌, ◌||◌, eqb, ltb, nat_eq, List, [], ◌∷◌}
 use Rattle.std.specs.Set.{is_member}
 use lib.Bits.{bit_and, bit_or}
-use Rattle.domain.specs.Masks.{contained, without}
+use Rattle.domain.specs.Masks.{is_within, without}
 use Rattle.domain.specs.Requests.{held_by}
 use Rattle.domain.specs.Told.{Told}
 use Rattle.domain.specs.declared.case.Case.{Case}
@@ -46,13 +46,13 @@ sharing gs p = held_by (keep (has p) gs)
 
 -- the term is a position, and it is free
 unfoldable pub free_term : State → Term → Bool
-free_term s t = t.bare && contained t.held s.marks.free
+free_term s t = t.bare && is_within t.held s.marks.free
 
 -- p is linear, held once, and shares with no other position of the term
 unfoldable pub once : State → Term → ℕ → Bool
 once s t p =
     has p s.marks.linear
-    && (not (has p t.repeated) && contained (bit_and (sharing s.groups p) t.held) (2 ^ p))
+    && (not (has p t.repeated) && is_within (bit_and (sharing s.groups p) t.held) (2 ^ p))
 
 unfoldable pub linear_term : State → Term → Bool
 linear_term s t =
@@ -158,7 +158,7 @@ change_of (Forget m) s = forget_of s m
 
 -- the groups strictly inside g
 unfoldable pub inside : List ℕ → ℕ → List ℕ
-inside gs g = keep (λ h. contained h g && not (eqb h g)) gs
+inside gs g = keep (λ h. is_within h g && not (eqb h g)) gs
 
 -- some position of g, with those that share with it inside g, leaves out another
 unfoldable pub is_core : ℕ → List ℕ → ℕ → Bool

@@ -6,7 +6,7 @@ use lib.Count.{ones}
 use Rattle.std.proofs.lemmas.Bool.{and_parts, and_from}
 use Rattle.domain.proofs.Bits.{in_or_not, in_below, in_single, single_in, one_position}
 use Rattle.domain.specs.Binding.{FreeTerm, Once, LinearTerm}
-use Rattle.domain.specs.Masks.{In, Within, contained}
+use Rattle.domain.specs.Masks.{In, Within, is_within}
 use Rattle.domain.specs.Requests.{held_by}
 use Rattle.domain.specs.Groups.{Share, IsGround}
 use Rattle.domain.specs.Told.{Group}
@@ -25,9 +25,9 @@ module _ (s : State) (t : Term) where
   unfolding free_term
   says_free_term single = record { yes = to; no = from }
     where
-      to : (t.bare && contained t.held s.marks.free) ≡ true → FreeTerm (tell s) t
+      to : (t.bare && is_within t.held s.marks.free) ≡ true → FreeTerm (tell s) t
       to e =
-          let r = and_parts t.bare (contained t.held s.marks.free) e in
+          let r = and_parts t.bare (is_within t.held s.marks.free) e in
           let o = one_position t.held (single r.0) in
           record {
             bare = r.0;
@@ -36,9 +36,9 @@ module _ (s : State) (t : Term) where
             free = ((says_contained t.held s.marks.free).yes r.1).each o.0 (subst (In o.0) (sym o.1) (in_single o.0));
           }
 
-      from : FreeTerm (tell s) t → (t.bare && contained t.held s.marks.free) ≡ true
+      from : FreeTerm (tell s) t → (t.bare && is_within t.held s.marks.free) ≡ true
       from f =
-          and_from t.bare (contained t.held s.marks.free) f.bare
+          and_from t.bare (is_within t.held s.marks.free) f.bare
           ((says_contained t.held s.marks.free).no (record { each = λ p i. subst (λ q. In q s.marks.free) (sym (single_in (subst (In p) f.only i))) f.free }))
 
   says_once : (p : ℕ) → Says (once s t p) (Once (tell s) t p)

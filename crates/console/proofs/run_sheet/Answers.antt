@@ -1,4 +1,4 @@
-use Rattle.std.proofs.Common.{replicate}
+use Rattle.std.proofs.Common.{refl, replicate}
 use lib.ListN.{length-replicate}
 use Rattle.console.specs.declared.TheConstants.{MOST_MARKS}
 use Rattle.console.proofs.run_sheet.Goals as goal
@@ -6,6 +6,7 @@ use Rattle.console.proofs.run_sheet.Goals as goal
 pub returns : goal.returns
 returns g c =
     record {
+      most_marks = refl;
       prints = record {
         marks = replicate MOST_MARKS c.blank-marks.result;
         marks' = c.run-outcome.new.lists.marks.now;
