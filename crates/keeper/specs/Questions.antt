@@ -1,5 +1,5 @@
 -- What a keeper answers to a question, from the description that it tells.
-use Rattle.std.specs.Prelude.{ℕ, ◌^◌, ◌<◌, Bool, Result}
+use Rattle.std.specs.Prelude.{◌^◌, ◌<◌, Bool, Result}
 use Rattle.domain.specs.Groups.{IsGround, Share}
 use Rattle.domain.specs.Told.{Told, Group, IsFree, IsLinear}
 use Rattle.keeper.specs.Calls.{Answers, ask_refusal, pair_refusal}

@@ -1,17 +1,16 @@
 -- What the rules make of a script: something, only one thing, and what a keeper with the most room makes of it.
 use Rattle.std.proofs.Common.{◌≡◌, ℕ, ◌+◌, ◌^◌, ◌≤◌, Bool, true, false, not, ◌||◌, eqb, ltb, List, [], ◌∷◌, ◌++◌, length, drop, Some, None, Ok, Err, Option, Result, sym, refl, ◌∙◌, subst, inl, arith}
-use native.Mathlib.Decide.{map_dec}
 use Rattle.std.proofs.lemmas.Bool.{eqb-false, ltb-false, or_parts, not-false, not-true}
 use Rattle.agreement.proofs.Agreeing.{fits_more}
 use Rattle.agreement.proofs.Calls.{asks_same}
 use Rattle.agreement.proofs.Rules.{made_lawful}
 use Rattle.coverage.proofs.ChangeLaws.{change_made, one_made, one_new}
-use Rattle.coverage.proofs.CoreLeast.{dec_group, dec_holding}
+use Rattle.coverage.proofs.CoreLeast.{dec_group}
 use Rattle.coverage.proofs.Cover.{alike_refl}
 use Rattle.coverage.proofs.DecidedTerms.{dec_ground, dec_share}
 use Rattle.coverage.proofs.ExistsSteps.{new_made}
 use Rattle.coverage.proofs.MostGroups.{most_fit}
-use Rattle.coverage.proofs.Searching.{decides_yes, decides_no, dec_in, dec_some}
+use Rattle.coverage.proofs.Searching.{decides_yes, decides_no, dec_in}
 use Rattle.domain.proofs.Opening.{new_lawful}
 use Rattle.domain.proofs.Refusing.{passed}
 use Rattle.domain.specs.Changes.{Makes, change_tests}

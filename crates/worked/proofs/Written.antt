@@ -5,7 +5,7 @@ use Rattle.agreement.proofs.Cores.{one_core}
 use Rattle.agreement.proofs.Reckoned.{reckoned_told}
 use Rattle.agreement.proofs.Rules.{reckoned_positions}
 use Rattle.agreement.proofs.ToldApart.{core_moved}
-use Rattle.agreement.specs.Reckoning.{Given, Reckoned}
+use Rattle.agreement.specs.Reckoning.{Reckoned}
 use Rattle.domain.specs.Coverage.{Alike, CoreFits, CoreList}
 use Rattle.domain.specs.Told.{Told, Group}
 use Rattle.domain.specs.declared.refusal.Refusal.TheVariants.{Order, Room}
