@@ -206,15 +206,17 @@ fn worked_binds(rt: HostRuntime) -> Result<(), Fail> {
     all_print(&rt, rt.alloc(), &sheets)
 }
 
-// A work list that is too short is refused by the one who needs it.
+// Opens two positions, and ends.
+const TWO_STEPS: [u8; 9] = *b"\x01\x00\x01\x00\x02\x00\x00\x06\x00";
+
+// A work list that is too short is refused by the one who needs it: the marks by the runner,
 #[test]
-fn short_work_lists(rt: HostRuntime) -> Result<(), Fail> {
-    let sheet = b"\x01\x00\x01\x00\x02\x00\x00\x06\x00";
+fn one_mark_for_two_steps(rt: HostRuntime) -> Result<(), Fail> {
     let mut marks = [StepMark::blank(); 1];
     let mut scratch = [0u8; TABLE_BYTES];
     let Err(fault) = run(
         &mut TableKeeper::new(),
-        sheet,
+        &TWO_STEPS,
         &mut WorkLists {
             marks: &mut marks,
             groups: &mut [],
@@ -232,13 +234,21 @@ fn short_work_lists(rt: HostRuntime) -> Result<(), Fail> {
             layer: Layer::Runner,
         }
     );
+    Ok(())
+}
+
+// and the scratch by the keeper.
+#[test]
+fn scratch_is_one_byte_short(rt: HostRuntime) -> Result<(), Fail> {
+    let mut marks = [StepMark::blank(); 1];
+    let mut scratch = [0u8; TABLE_BYTES - 1];
     let Err(fault) = run(
         &mut TableKeeper::new(),
-        sheet,
+        &TWO_STEPS,
         &mut WorkLists {
             marks: &mut marks,
             groups: &mut [],
-            scratch: &mut scratch[0..TABLE_BYTES - 1],
+            scratch: &mut scratch,
         },
     ) else {
         return Err(Fail::new("scratch is one byte short"));
