@@ -1,5 +1,5 @@
 -- Every fault of the reader is a refusal that the reader can give.
-use Rattle.std.proofs.Common.{◌≡◌, ℕ, zero, suc, ◌+◌, ◌-◌, nat_lt, Bool, true, false, if◌then◌else◌, ◌==◌, List, Ok, Err, IfErr, Some, None, Option, refl, sym, arith}
+use Rattle.std.proofs.Common.{◌≡◌, ℕ, zero, suc, ◌+◌, ◌-◌, nat_lt, Bool, true, false, if◌then◌else◌, ◌==◌, List, length, Ok, Err, IfErr, Some, None, Option, refl, sym, arith}
 use Rattle.domain.specs.declared.refusal.Layer.TheVariants.{Reader}
 use Rattle.domain.specs.declared.refusal.Refusal.{Refusal}
 use Rattle.domain.specs.declared.refusal.Refusal.TheVariants.{Truncated, Kind, Letter}
@@ -10,9 +10,11 @@ use Rattle.sheet.specs.Faults.{CanRefuse, alone, position_read}
 use Rattle.sheet.specs.declared.fault.ReaderFault.{ReaderFault}
 use Rattle.sheet.specs.Kinds.{step_kind}
 use Rattle.sheet.specs.declared.kind.StepKind.{StepKind}
+use Rattle.sheet.specs.declared.kind.StepKind.TheVariants.{Open, Bind, Join, Forget, Ask, End}
 use Rattle.sheet.specs.declared.steps.Step.{Step}
 use Rattle.std.specs.Option.{ok_or}
-use Rattle.reader.specs.Payloads.{one_of, two_of, question_by, question_of, open_of, bind_of, join_of, forget_of, ask_of, end_of}
+use Rattle.reader.specs.Heads.{Head, head_at, known}
+use Rattle.reader.specs.Payloads.{one_of, two_of, question_by, question_of, open_of, bind_of, join_of, forget_of, ask_of, end_of, payload_of, step_of}
 use Rattle.reader.specs.Reading.{Read, ◌>>=◌, fault, refuse}
 use Rattle.reader.specs.Records.{byte_at, pair_at, record_at, position_at}
 use Rattle.reader.specs.TermKinds.{term_kind}
@@ -125,6 +127,28 @@ an_ask bytes r = tested _ _ _ _ (alone refl) (after _ _ (a_question bytes r) (λ
 
 pub an_end : (r : Record) → Refuses (end_of r)
 an_end r = tested _ _ _ _ (alone refl) (ok _)
+
+payload_refuses : (bytes : List ℕ) (r : Record) (kind : StepKind) → Refuses (payload_of bytes r kind)
+payload_refuses bytes r Open = an_open bytes r
+payload_refuses bytes r Bind = a_bind bytes r
+payload_refuses bytes r Join = a_join bytes r
+payload_refuses bytes r Forget = a_forget bytes r
+payload_refuses bytes r Ask = an_ask bytes r
+payload_refuses bytes r End = an_end r
+
+-- the step of a head
+pub a_step : (bytes : List ℕ) (head : Head) → Refuses (step_of bytes head)
+a_step bytes head = payload_refuses bytes head.frame head.kind
+
+a_kind : {K : Type 0} (r : Record) (kind : Option K) → Refuses (known r kind)
+a_kind r (Some k) = ok k
+a_kind r None = faulted Kind r.place (alone refl)
+
+-- the head of a record
+pub a_head : (sheet : List ℕ) (at : ℕ) → Refuses (head_at sheet at)
+a_head sheet at =
+    after _ _ (a_record sheet at (length sheet)) (λ frame.
+    after _ _ (a_kind frame (step_kind frame.kind)) (λ kind. ok _))
 
 pub step_refuses : (read whole : Read Step) → read ≡ whole → Refuses whole → IfErr read (λ f. CanRefuse Reader f.refusal)
 step_refuses read whole e h = rw e h.told

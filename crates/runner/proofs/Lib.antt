@@ -1,4 +1,5 @@
 pub mod Laid
+pub mod Layers
 pub mod Marking
 pub mod Meanings
 pub mod Plays

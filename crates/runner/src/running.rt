@@ -1,6 +1,7 @@
 //! A whole sheet, run on any keeper.
-ghost use Rattle.std.specs.Prelude.{◌≡◌, ◌≤◌, length};
+ghost use Rattle.std.specs.Prelude.{◌≡◌, ◌≤◌, length, IfErr};
 ghost use Rattle.roll.specs.Views.{loan_of, slots, used_in};
+ghost use Rattle.sheet.specs.Faults.{CanOccur};
 ghost use Rattle.sheet.specs.declared.steps.TheConstants.{LONGEST_SHEET};
 ghost use Rattle.runner.specs.Laying.{ReadsLaid};
 ghost use Rattle.runner.specs.Meaning.{SameEverywhere, OneMeaning, AsMeant};
@@ -48,6 +49,7 @@ pub fn run<K: Keeper>(
         lists.old.marks.now lists.new.marks.now result }
     ensures reads_laid { ReadsLaid sheet.now (length lists.old.groups.now)
         (length lists.old.marks.now) }
+    ensures layer { IfErr result (λ f. CanOccur f.cause) }
     ensures same_capacity { K.Keeper.capacity keeper.new ≡ K.Keeper.capacity keeper.old }
     ensures marks_long { length lists.new.marks.now ≡ length lists.old.marks.now }
     ensures groups_long { length lists.new.groups.now ≡ length lists.old.groups.now }

@@ -17,6 +17,11 @@ number_in (Reader f) = number_of f.refusal
 number_in (Runner e) = number_of e
 number_in (Keeper f) = number_of f.refusal
 
+abbrev pub refusal_in : RunnerFault → Refusal
+refusal_in (Reader f) = f.refusal
+refusal_in (Runner e) = e
+refusal_in (Keeper f) = f.refusal
+
 abbrev pub layer_in : RunnerFault → Layer
 layer_in (Reader f) = layer.Reader
 layer_in (Runner e) = layer.Runner
@@ -56,3 +61,7 @@ pub data CanRefuse : Layer → Refusal → Type 0 where
   position_in_call : CanRefuse layer.Keeper Position
   room_in_lists : CanRefuse layer.Runner Room
   room_in_call : CanRefuse layer.Keeper Room
+
+-- the layer that refuses is one that can
+abbrev pub CanOccur : RunnerFault → Type 0
+CanOccur f = CanRefuse (layer_in f) (refusal_in f)
