@@ -1,9 +1,10 @@
-pub mod Reaching
 pub mod Asking
-pub mod Local
-pub mod Cases
-pub mod Linearity
-pub mod Staying
-pub mod Binding
-pub mod Lending
 pub mod Beside
+pub mod Binding
+pub mod Cases
+pub mod Laying
+pub mod Lending
+pub mod Linearity
+pub mod Local
+pub mod Reaching
+pub mod Staying

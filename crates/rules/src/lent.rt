@@ -1,10 +1,10 @@
 //! The rules on a lent table, beside which the caller keeps the outline. The new table takes the place of the
 //! old one; where a call is refused, the table stays as it was.
-ghost use Rattle.std.specs.Prelude.{◌≡◌, ℕ, ◌/◌, ◌<◌, ◌↔◌, ◌++◌, length, Contains, Err, IsTrue, OnOk};
+ghost use Rattle.std.specs.Prelude.{◌≡◌, ℕ, ◌/◌, ◌<◌, ◌↔◌, ◌++◌, drop, length, Contains, Err, IsTrue, OnOk};
 ghost use Rattle.domain.specs.Changes.{Makes, change_tests, lent_change};
 ghost use Rattle.domain.specs.Opening.{New, Single};
 ghost use Rattle.domain.specs.Refusals.{first_of};
-ghost use Rattle.domain.specs.Requests.{open_tests, room_tests, Gives};
+ghost use Rattle.domain.specs.Requests.{bytes_for, open_tests, room_tests, Gives};
 ghost use Rattle.domain.specs.Tables.{TableGroup, holds_bit, told_with};
 ghost use Rattle.rules.specs.Reaching.{Reach};
 ghost use Rattle.rules.specs.Views.{SameBeside};
@@ -14,24 +14,26 @@ use crate::groups::{Groups, all};
 use crate::rule::check::Limits;
 use crate::rule::load::{put_groups, put_singles};
 use domain::change::Change;
-use domain::limits::{check_count, check_room};
+use domain::limits::{bytes_for, check_count, check_room};
 use domain::marks::Marks;
 use domain::outline::Outline;
 use domain::refusal::Refusal;
 
-/// Makes the table that of the new description: each position alone in its group, free and linear. All its other
-/// bits are cleared, to its end. Refuses a number of positions that no description has, and a table that is too
-/// short.
+/// Makes the table that of the new description: each position alone in its group, free and linear. All other bits
+/// of the bytes that so many positions need are cleared; the bytes past these stay. Refuses a number of positions
+/// that no description has, and a table that is too short.
 pub fn open_table(table: &mut [u8], positions: u8) -> Result<Outline, Refusal>
     ensures gives { Gives
         (first_of (open_tests positions ++ room_tests positions (length table.old))) result
         (λ o. New positions (told_with o table.new)) }
-    ensures whole { OnOk result ((g : ℕ) → (IsTrue (holds_bit table.new g) ↔ Single positions g)) }
+    ensures front { OnOk result ((g : ℕ) → g / 8 < bytes_for positions
+        → (IsTrue (holds_bit table.new g) ↔ Single positions g)) }
+    ensures past { drop (bytes_for positions) table.new ≡ drop (bytes_for positions) table.old }
     ensures kept { (e : Refusal) → result ≡ Err e → table.new ≡ table.old }
 {
     check_count(positions)?;
     check_room(positions, table.len())?;
-    put_singles(table, positions);
+    put_singles(&mut table[..bytes_for(positions)], positions);
     let every = all(positions);
     Ok(Outline {
         positions,

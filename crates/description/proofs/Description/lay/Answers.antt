@@ -1,6 +1,6 @@
 use Rattle.std.proofs.Common.{◌≡◌, length, drop, arith, length-append, length-drop}
 use Rattle.domain.specs.declared.limits.TheConstants.{TABLE_BYTES}
-use Rattle.description.proofs.Laying.{told_laid}
+use Rattle.rules.proofs.Laying.{told_laid}
 use Rattle.description.proofs.Description.lay.Goals as goal
 
 pub returns-in-Some : goal.returns-in-Some

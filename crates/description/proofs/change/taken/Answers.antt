@@ -3,7 +3,7 @@ use Rattle.std.proofs.lemmas.Option.{MatchOption-at_some}
 use Rattle.std.specs.Array.{IsFirstChunk}
 use Rattle.domain.specs.Told.{Told, Lawful}
 use Rattle.domain.specs.declared.limits.TheConstants.{TABLE_BYTES}
-use Rattle.description.proofs.Laying.{told_taken}
+use Rattle.rules.proofs.Laying.{told_taken}
 use Rattle.description.proofs.change.taken.Goals as goal
 
 pub invariant_of-result : goal.invariant_of-result

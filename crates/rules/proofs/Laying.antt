@@ -30,3 +30,7 @@ told_taken o t few = told_front o (take TABLE_BYTES t) t few (λ i h. get_or-tak
 pub told_laid : (o : Outline) (t rest : List ℕ) → o.positions ≤ MOST_POSITIONS → length t ≡ TABLE_BYTES → told_with o (t ++ rest) ≡ told_with o t
 told_laid o t rest few long =
     told_front o (t ++ rest) t few (λ i h. get_or_append_left t rest 0 i (omega (arith, long, h)))
+
+-- the bit of a mask in the first bytes is that of the whole
+pub laid_bit : (t rest : List ℕ) (g : ℕ) → g / 8 < length t → holds_bit (t ++ rest) g ≡ holds_bit t g
+laid_bit t rest g h = same_bit (t ++ rest) t g (get_or_append_left t rest 0 (g / 8) h)
