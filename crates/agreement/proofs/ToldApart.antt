@@ -12,7 +12,7 @@ use Rattle.keeper.specs.Calls.{opened}
 use Rattle.agreement.proofs.Calls.{session_same}
 use Rattle.agreement.proofs.Reckoned.{reckoned_told}
 use Rattle.agreement.proofs.Rules.{reckoned_lawful, reckoned_positions}
-use Rattle.agreement.specs.Laws.{NothingTellsApart, AlikeAreNotToldApart}
+use Rattle.agreement.specs.Laws.{NothingTellsApart, NeverToldApart, AlikeAreNotToldApart}
 use Rattle.agreement.specs.Sessions.{Call, CanBeMade, Answer, wrote, Session, done, calls}
 use Rattle.agreement.specs.declared.call.KeeperCall.TheVariants.{WriteOut}
 
@@ -69,8 +69,8 @@ not_told_apart k s t n cs ds d e gs rd gt re = (forth, back)
     et : Alike e t
     et = reckoned_told re gt
 
-    forth : Alike d e → NothingTellsApart k s t
-    forth h fs these those s' t' can u v =
+    forth : Alike d e → NeverToldApart k s t
+    forth h fs these those s' t' u v =
         (session_same k fs s t s' t' these those (alike_trans (alike_turned ds') (alike_trans h et)) u v).0
 
     back : NothingTellsApart k s t → Alike d e

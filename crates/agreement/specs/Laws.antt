@@ -18,6 +18,12 @@ NothingTellsApart capacity s t =
     → AllByRecursion CanBeMade cs
     → Session capacity cs s these s' → Session capacity cs t those t' → these ≡ those
 
+-- the same of any lists of calls
+abbrev pub NeverToldApart : ℕ → Told → Told → Type 0
+NeverToldApart capacity s t =
+    (cs : List Call) (these those : List Answer) (s' t' : Told)
+    → Session capacity cs s these s' → Session capacity cs t those t' → these ≡ those
+
 -- s and t are told by keepers of one capacity, each opened with n positions and given a list of calls:
 -- their reckoned descriptions are alike exactly when nothing tells the two apart
 abbrev pub AlikeAreNotToldApart : ℕ → Told → Told → Type 0
@@ -25,7 +31,7 @@ AlikeAreNotToldApart capacity s t =
     (n : ℕ) (cs ds : List Call) (d e : Told)
     → Given n capacity cs s → Reckoned n capacity cs d
     → Given n capacity ds t → Reckoned n capacity ds e
-    → Alike d e ↔ NothingTellsApart capacity s t
+    → (Alike d e → NeverToldApart capacity s t) × (NothingTellsApart capacity s t → Alike d e)
 
 -- What the answer of a comparison means, of keepers of one capacity that were opened with one n and each given any
 -- calls: yes exactly when nothing tells them apart.

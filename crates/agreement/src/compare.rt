@@ -7,7 +7,7 @@ use keeper::{Keeper, KeeperFault};
 
 /// Whether two keepers tell the same marks and cover the same pairs, by the cores that they write into two
 /// lists. Keepers of equal capacity and number of positions whose reckoned descriptions are alike cannot be
-/// told apart by any further calls, and all others can.
+/// told apart by any further calls, and all others of these can.
 pub fn are_alike<A: Keeper, B: Keeper>(
     a: &A,
     b: &B,

@@ -1,5 +1,5 @@
 //! Whole sheets, and what is printed of them.
-use console::run_sheet;
+use console::{run_between, run_sheet};
 use domain::limits::TABLE_BYTES;
 use domain::listing::Listing;
 use domain::marks::Marks;
@@ -18,6 +18,41 @@ fn prints(rt: &impl Abort, heap: Global, sheet: &[u8], text: &str, what: &str) -
     let printed = run_sheet(heap, &mut keeper, sheet)?;
     assert!(rt; printed.as_str() == text, "{what}");
     Ok(())
+}
+
+// What is read of a reader is run, and its lines go to a writer: a sheet that is refused is answered, too.
+fn writes(rt: &impl Abort, heap: Global, sheet: &[u8], text: &str) -> Result<(), Fail> {
+    let mut out = Vec::new(heap);
+    let Ok(()) = run_between(heap, &mut TableKeeper::new(), sheet, &mut out) else {
+        return Err(Fail::new("every sheet is answered"));
+    };
+    assert!(rt; out.as_slice() == text.as_bytes(), "{text}");
+    Ok(())
+}
+
+#[test]
+fn from_a_reader_to_a_writer(rt: HostRuntime) -> Result<(), Fail> {
+    let heap = rt.alloc();
+    writes(&rt, heap, b"", "refused 1 at 0 step 0 reader\n")?;
+    writes(&rt, heap, &[0; 100], "refused 2 at 0 step 0 reader\n")?;
+    writes(
+        &rt,
+        heap,
+        &[0; LONGEST_SHEET],
+        "refused 2 at 0 step 0 reader\n",
+    )?;
+    writes(
+        &rt,
+        heap,
+        &[0; LONGEST_SHEET + 1],
+        "refused 3 at 0 step 0 reader\n",
+    )?;
+    writes(
+        &rt,
+        heap,
+        &THREE_STEPS,
+        "0 open yes\n5 ask no\n11 end yes\n",
+    )
 }
 
 // What each sheet shows, its bytes, and what is printed of it.
