@@ -8,6 +8,8 @@ use table_keeper::TableKeeper;
 mod both;
 #[cfg(test)]
 mod tests;
+#[cfg(test)]
+mod work_lists;
 
 fn main(rt: HostRuntime) -> anyhow::Result<()> {
     let mut keeper = TableKeeper::new();
