@@ -16,6 +16,7 @@ use Rattle.keeper.specs.Calls.{Changes, Exactly, Opens, open_refusal, opened}
 use Rattle.keeper.specs.declared.fault.KeeperFault.{KeeperFault}
 use Rattle.keeper.specs.declared.write_out.WrittenOut.{WrittenOut}
 use Rattle.agreement.proofs.Holding.{session_more}
+use Rattle.agreement.proofs.Loans.{calls_self}
 use Rattle.agreement.proofs.Reckoned.{reckoned_told}
 use Rattle.agreement.proofs.Rules.{reckoned_positions}
 use Rattle.agreement.proofs.ToldApart.{not_told_apart}
@@ -62,7 +63,7 @@ module _ (k : ℕ) (s t : Told) (n : ℕ) (cs ds : List Call) (o : Opened n) (g 
       let law = not_told_apart k s t n cs ds rd.0 re.0 g rd.1 h re.1 in
       let dn = reckoned_positions rd.1 in
       let en = reckoned_positions re.1 in (
-        λ m fs these those s' t' can u v. law.0 (alike_trans a (alike_trans (record { positions = sym a.positions ∙ dn ∙ sym en ∙ b.positions; marks = m.marks; cover = m.cover }) (alike_turned b))) fs these those s' t' u v,
+        λ m fs these those s' t' can u v. law.0 (alike_trans a (alike_trans (record { positions = sym a.positions ∙ dn ∙ sym en ∙ b.positions; marks = m.marks; cover = m.cover }) (alike_turned b))) fs fs these those s' t' (calls_self fs) u v,
         λ none. let both = alike_trans (alike_turned a) (alike_trans (law.1 none) b) in record { marks = both.marks; cover = both.cover },
       )
 

@@ -3,6 +3,7 @@ pub mod Cores
 pub mod Calls
 pub mod Reckoned
 pub mod Rules
+pub mod Loans
 pub mod ToldApart
 pub mod LeastLists
 pub mod Comparisons

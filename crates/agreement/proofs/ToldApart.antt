@@ -10,6 +10,7 @@ use Rattle.domain.specs.Coverage.{Alike, CoreList}
 use Rattle.domain.specs.Told.{Told, Group}
 use Rattle.keeper.specs.Calls.{opened}
 use Rattle.agreement.proofs.Calls.{session_same}
+use Rattle.agreement.proofs.Loans.{session_with}
 use Rattle.agreement.proofs.Reckoned.{reckoned_told}
 use Rattle.agreement.proofs.Rules.{reckoned_lawful, reckoned_positions}
 use Rattle.agreement.specs.Laws.{NothingTellsApart, NeverToldApart, AlikeAreNotToldApart}
@@ -70,8 +71,8 @@ not_told_apart k s t n cs ds d e gs rd gt re = (forth, back)
     et = reckoned_told re gt
 
     forth : Alike d e → NeverToldApart k s t
-    forth h fs these those s' t' u v =
-        (session_same k fs s t s' t' these those (alike_trans (alike_turned ds') (alike_trans h et)) u v).0
+    forth h fs gs these those s' t' same u v =
+        (session_same k fs s t s' t' these those (alike_trans (alike_turned ds') (alike_trans h et)) u (session_with k fs gs same v)).0
 
     back : NothingTellsApart k s t → Alike d e
     back same =

@@ -6,7 +6,7 @@ use Rattle.domain.specs.Told.{Told, Group}
 use Rattle.keeper.specs.declared.fault.KeeperFault.{KeeperFault}
 use Rattle.keeper.specs.declared.write_out.WrittenOut.{WrittenOut}
 use Rattle.agreement.specs.Reckoning.{Opened, Reckoned, Given}
-use Rattle.agreement.specs.Sessions.{Call, CanBeMade, Answer, Session}
+use Rattle.agreement.specs.Sessions.{Call, CanBeMade, Answer, SameCalls, Session}
 
 -- ---- alike keepers are those that nothing tells apart
 
@@ -18,11 +18,12 @@ NothingTellsApart capacity s t =
     → AllByRecursion CanBeMade cs
     → Session capacity cs s these s' → Session capacity cs t those t' → these ≡ those
 
--- the same of any lists of calls
+-- The same of any lists of calls, those that cannot be made among them, and whatever is lent to the one and to the
+-- other that a call does not work in.
 abbrev pub NeverToldApart : ℕ → Told → Told → Type 0
 NeverToldApart capacity s t =
-    (cs : List Call) (these those : List Answer) (s' t' : Told)
-    → Session capacity cs s these s' → Session capacity cs t those t' → these ≡ those
+    (cs ds : List Call) (these those : List Answer) (s' t' : Told) → SameCalls cs ds
+    → Session capacity cs s these s' → Session capacity ds t those t' → these ≡ those
 
 -- s and t are told by keepers of one capacity, each opened with n positions and given a list of calls:
 -- their reckoned descriptions are alike exactly when nothing tells the two apart

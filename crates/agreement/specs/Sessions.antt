@@ -89,3 +89,23 @@ pub data Session (capacity : ℕ) : List Call → Told → List Answer → Told 
   done : {d : Told} → Session capacity [] d [] d
   calls : {c : Call} {cs : List Call} {d e z : Told} {a : Answer} {more : List Answer}
       → Called capacity c d a e → Session capacity cs e more z → Session capacity (c ∷ cs) d (a ∷ more) z
+
+-- ---- the same calls, whatever is lent with them that they do not work in
+
+-- by the kind of call: a change works in its scratch, a write-out in its list, a question in neither
+abbrev pub SameLoan : KeeperCall (List ℕ) → (scratch scratch' room room' : ℕ) → Type 0
+SameLoan (Change c) scratch scratch' room room' = scratch' ≡ scratch
+SameLoan (Ask q) scratch scratch' room room' = Unit {0}
+SameLoan WriteOut scratch scratch' room room' = room' ≡ room
+
+-- one call twice, with as much lent of what it works in
+pub record SameCall (c d : Call) : Type 0 where
+  pub call : d.call ≡ c.call
+  pub loan : SameLoan c.call c.scratch d.scratch c.room d.room
+
+-- over two lists of calls
+abbrev pub SameCalls : List Call → List Call → Type 0
+SameCalls [] [] = Unit {0}
+SameCalls [] (d ∷ ds) = ⊥
+SameCalls (c ∷ cs) [] = ⊥
+SameCalls (c ∷ cs) (d ∷ ds) = SameCall c d × SameCalls cs ds

@@ -2,9 +2,10 @@
 use Rattle.std.proofs.Common.{◌≡◌, ℕ, ◌^◌, Bool, true, ◌&&◌, eqb, leb, ltb, ◌≤◌, List, [], ◌∷◌, refl, ap, ◌∙◌, subst, Some, None, Option, IfSome, sym, arith}
 use Rattle.std.proofs.lemmas.Bool.{and_parts, eqb-true, leb-true, ltb-true}
 use Rattle.agreement.proofs.Calls.{session_same}
+use Rattle.agreement.proofs.Loans.{reckoned_with, session_with, calls_turned}
 use Rattle.agreement.proofs.Unique.{one_reckoned}
 use Rattle.agreement.specs.Reckoning.{Opened, Reckoned}
-use Rattle.agreement.specs.Sessions.{Call, Answer, Session}
+use Rattle.agreement.specs.Sessions.{Call, Answer, SameCalls, Session}
 use Rattle.domain.proofs.Lists.{contains, listed}
 use Rattle.domain.proofs.Opening.{new_lawful}
 use Rattle.coverage.proofs.Places.{new_alike}
@@ -109,13 +110,16 @@ module _ (r : Row) (c : found r ≡ claimed r) where
         (answers_of k r.calls (new_of r.n)) (new_alike new (steps.new r.n)) session runs.session).0
         ∙ same.1 ∙ ap (λ (f : Finding). f.answers) c
 
-    pub worked_at : WorkedAt r k
-    worked_at =
+    pub worked_at : (cs : List Call) → SameCalls r.calls cs → WorkedAt r k cs
+    worked_at cs alike =
         record {
           told = tell (written r);
-          reckoned = reckoned;
-          shows = λ d h. subst (λ (e : Told). Shows r e) (one_reckoned.one r.n k r.calls (tell (written r)) d reckoned h) (shown r reads);
-          answers = one_answer;
+          reckoned = reckoned_with r.n k cs r.calls (calls_turned r.calls cs alike) reckoned;
+          shows =
+              λ d h.
+              subst (λ (e : Told). Shows r e)
+              (one_reckoned.one r.n k r.calls (tell (written r)) d reckoned (reckoned_with r.n k r.calls cs alike h)) (shown r reads);
+          answers = λ start after those new session. one_answer start after those new (session_with k r.calls cs alike session);
         }
 
   pub worked : Worked r

@@ -1,7 +1,8 @@
 -- Two shortcuts of the bind rule, each computed beside the rule.
-use Rattle.std.proofs.Common.{◌≡◌, ℕ, true, false, List, [], ◌∷◌, ◌++◌, refl, subst, inl, inr, ◌≤◌, None, Option, IfSome, sym, arith}
+use Rattle.std.proofs.Common.{◌≡◌, ℕ, true, false, List, [], ◌∷◌, ◌++◌, refl, subst, inl, inr, ◌≤◌, arith}
 use lib.Bits.{bit_or}
 use lib.Count.{ones}
+use Rattle.agreement.proofs.Loans.{reckoned_with}
 use Rattle.agreement.proofs.Unique.{one_reckoned}
 use Rattle.agreement.specs.Reckoning.{Reckoned}
 use Rattle.std.proofs.lemmas.Bool.{both_ways, ltb-true}
@@ -23,23 +24,19 @@ use Rattle.worked.proofs.Positions.{IsMaskOf, marks_as, marks_self, marks_none, 
 use Rattle.worked.proofs.States.{State, tell, linear_term, ground_of, bind_by}
 use Rattle.worked.proofs.Verdicts.{says_linear_term}
 
--- a row that speaks of every keeper with room speaks of the one with the least
-own : (r : Row) → r.most ≡ None → SpeaksOf r r.least
-own r ends = (omega arith, subst (λ (o : Option ℕ). IfSome o (λ most. r.least ≤ most)) (sym ends) tt)
-
 -- the row of the calls before the bind, and what the shortcut makes of the state that it writes out
 differs : {Shortcut : Told → ℕ → Term → Told → Type 0} {x : ℕ} {t : Term} (before right wrong : Row) → found before ≡ claimed before
-    → right.n ≡ before.n → right.least ≡ before.least → before.most ≡ None → right.calls ≡ before.calls ++ (bind_to x t ∷ []) → Worked right
+    → right.n ≡ before.n → ((k : ℕ) → SpeaksOf right k → SpeaksOf before k) → right.calls ≡ before.calls ++ (bind_to x t ∷ []) → Worked right
     → Shortcut (tell (written before)) x t (tell (written wrong)) → Reads wrong → Differs Shortcut before.calls x t right wrong
-differs {Shortcut} {x} {t} before right wrong c en ek ends calls rule made reads =
+differs {Shortcut} {x} {t} before right wrong c en speaks calls rule made reads =
     record {
       calls = calls;
       rule = rule;
       shortcut =
-          λ d r.
+          λ k fits cs same d r.
           subst (λ (d : Told). (e : Told) × Shortcut d x t e × Shows wrong e)
-          (one_reckoned.one before.n before.least before.calls (tell (written before)) d (reckoned before c before.least (own before ends))
-          (subst (λ k. Reckoned before.n k before.calls d) ek (subst (λ n. Reckoned n right.least before.calls d) en r)))
+          (one_reckoned.one before.n k before.calls (tell (written before)) d (reckoned before c k (speaks k fits))
+          (reckoned_with before.n k before.calls cs same (subst (λ n. Reckoned n k cs d) en r)))
           (tell (written wrong), made, shown wrong reads);
     }
 
@@ -54,9 +51,10 @@ pair = row 2 2 (bind_to 0 (bare_term 1) ∷ []) (3 ∷ []) (3 ∷ []) 3 3
 
 pub sharers_are_not_linear : SharersAreNotLinear
 unfolding computing
-sharers_are_not_linear d r =
+sharers_are_not_linear cs same d r =
     subst (λ (d : Told). CountedLinear d (over_term 3 0) × (LinearTerm d (over_term 3 0) → ⊥))
-    (one_reckoned.one 2 MOST_GROUPS pair.calls (tell (written pair)) d (reckoned pair refl MOST_GROUPS (omega arith, tt)) r) (
+    (one_reckoned.one 2 MOST_GROUPS pair.calls (tell (written pair)) d (reckoned pair refl MOST_GROUPS (omega arith, tt))
+    (reckoned_with 2 MOST_GROUPS pair.calls cs same r)) (
       record { each = λ p i. (i, λ j. none_in j) },
       says_not (says_linear_term (written pair) (over_term 3 0) (ltb-true 3 4 refl)) refl,
     )
@@ -84,7 +82,7 @@ counted_state = refl
 pub counting_differs : CountingDiffers
 unfolding computing
 counting_differs =
-    differs {Shortcut = Counting} shared _ _ refl refl refl refl refl (worked _ refl)
+    differs {Shortcut = Counting} shared _ _ refl refl (λ k fits. fits) refl (worked _ refl)
     (subst (λ s. Counting (tell (written shared)) 0 (over_term 6 0) (tell s)) counted_state by_counting)
     (record { in_range = refl; core = refl })
 
@@ -114,6 +112,6 @@ marked_state = refl
 pub omitting_ground_differs : OmittingGroundDiffers
 unfolding computing
 omitting_ground_differs =
-    differs {Shortcut = OmittingGround} repeated _ _ refl refl refl refl refl (worked _ refl)
+    differs {Shortcut = OmittingGround} repeated _ _ refl refl (λ k fits. fits) refl (worked _ refl)
     (subst (λ s. OmittingGround (tell (written repeated)) 0 constant_term (tell s)) marked_state omitting_ground)
     (record { in_range = refl; core = refl })

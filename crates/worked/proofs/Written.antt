@@ -6,6 +6,7 @@ use Rattle.agreement.proofs.Reckoned.{reckoned_told}
 use Rattle.agreement.proofs.Rules.{reckoned_positions}
 use Rattle.agreement.proofs.ToldApart.{core_moved}
 use Rattle.agreement.specs.Reckoning.{Reckoned}
+use Rattle.agreement.specs.Sessions.{Call}
 use Rattle.domain.specs.Coverage.{Alike, CoreFits, CoreList}
 use Rattle.domain.specs.Told.{Told, Group}
 use Rattle.domain.specs.declared.refusal.Refusal.TheVariants.{Order, Room}
@@ -15,7 +16,7 @@ use Rattle.keeper.specs.declared.write_out.WrittenOut.{WrittenOut}
 use Rattle.worked.specs.Rows.{Row, Shows, AllWorked}
 use Rattle.worked.specs.Writing.{WritesRow, WritesRows}
 
-module _ (r : Row) (k : ℕ) (t : Told) (alike : (d : Told) × Reckoned r.n k r.calls d × Shows r d × Alike d t) where
+module _ (r : Row) (k : ℕ) (cs : List Call) (t : Told) (alike : (d : Told) × Reckoned r.n k cs d × Shows r d × Alike d t) where
   core : CoreList (Group t) r.core
   core = core_moved alike.3 alike.2.core
 
@@ -50,9 +51,9 @@ pub rows_written : (rs : List Row) → AllWorked rs → (capacity : ℕ) (t : To
     → WritesRows rs capacity t list list' w
 rows_written [] ws k t list list' w h = tt
 rows_written (r ∷ rs) ws k t list list' w h = (
-  λ speaks given.
-      let one = ws.0 k speaks in
-      row_written r k t
+  λ speaks cs same given.
+      let one = ws.0 k speaks cs same in
+      row_written r k cs t
       (one.told, one.reckoned, one.shows one.told one.reckoned, reckoned_told one.reckoned given)
       list list' w h,
   rows_written rs ws.1 k t list list' w h,

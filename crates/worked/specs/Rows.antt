@@ -5,7 +5,7 @@ use Rattle.domain.specs.Opening.{New}
 use Rattle.domain.specs.Told.{Told, Group}
 use Rattle.domain.specs.declared.marks.Marks.{Marks}
 use Rattle.agreement.specs.Reckoning.{Reckoned}
-use Rattle.agreement.specs.Sessions.{Call, Answer, Session}
+use Rattle.agreement.specs.Sessions.{Call, Answer, SameCalls, Session}
 
 pub record Row : Type 0 where
   pub n : ℕ
@@ -30,19 +30,19 @@ pub record Shows (r : Row) (d : Told) : Type 0 where
 abbrev pub SpeaksOf : Row → ℕ → Type 0
 SpeaksOf r capacity = (r.least ≤ capacity) × IfSome r.most (λ most. capacity ≤ most)
 
--- the row is right of keepers of one capacity
-pub record WorkedAt (r : Row) (capacity : ℕ) : Type 0 where
-  -- the rules reckon a description from the row's calls, and it is the one written out
+-- the row is right of keepers of one capacity that are given these calls
+pub record WorkedAt (r : Row) (capacity : ℕ) (cs : List Call) : Type 0 where
+  -- the rules reckon a description from the calls, and it is the one written out
   pub told : Told
-  pub reckoned : Reckoned r.n capacity r.calls told
-  pub shows : (d : Told) → Reckoned r.n capacity r.calls d → Shows r d
+  pub reckoned : Reckoned r.n capacity cs told
+  pub shows : (d : Told) → Reckoned r.n capacity cs d → Shows r d
   -- every keeper that is opened and given the calls answers as written
   pub answers : (start after : Told) (those : List Answer) → New r.n start
-      → Session capacity r.calls start those after → those ≡ r.answers
+      → Session capacity cs start those after → those ≡ r.answers
 
--- the row is right of all the keepers that it speaks of
+-- the row is right of all the keepers that it speaks of, whatever lists are lent with its calls
 abbrev pub Worked : Row → Type 0
-Worked r = (capacity : ℕ) → SpeaksOf r capacity → WorkedAt r capacity
+Worked r = (capacity : ℕ) → SpeaksOf r capacity → (cs : List Call) → SameCalls r.calls cs → WorkedAt r capacity cs
 
 -- every row of a list is right
 abbrev pub AllWorked : List Row → Type 0

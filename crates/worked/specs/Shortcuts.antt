@@ -1,7 +1,7 @@
 -- Shortcuts of the rules that give something else, each with an example in which it does.
 use Rattle.std.specs.Prelude.{◌≡◌, ℕ, ◌^◌, ◌≢◌, ◌⊎◌, ◌↔◌, List, [], ◌∷◌, ◌++◌, Contains}
 use Rattle.agreement.specs.Reckoning.{Reckoned}
-use Rattle.agreement.specs.Sessions.{Call}
+use Rattle.agreement.specs.Sessions.{Call, SameCalls}
 use Rattle.domain.specs.Binding.{FreeTerm, LinearTerm, NewGroup, StaysFree, Bound}
 use Rattle.domain.specs.Coverage.{CoreList}
 use Rattle.domain.specs.Masks.{In, Within}
@@ -12,7 +12,7 @@ use Rattle.domain.specs.declared.limits.TheConstants.{MOST_GROUPS}
 use Rattle.domain.specs.declared.case.Case.{Case}
 use Rattle.domain.specs.declared.case.Case.TheVariants.{Free, BothLinear, PositionLinear, TermLinear, Neither}
 use Rattle.domain.specs.declared.term.Term.{Term}
-use Rattle.worked.specs.Rows.{Row, Shows, Worked}
+use Rattle.worked.specs.Rows.{Row, Shows, SpeaksOf, Worked}
 use Rattle.worked.specs.Table.{bind_to, row, five}
 
 -- ---- the core is more than the groups in which no smaller one lies
@@ -80,7 +80,8 @@ pub record CountedLinear (d : Told) (t : Term) : Type 0 where
 -- 0 is bound to position 1: f(0, 1) is linear by counting, and not by the rule, since 0 and 1 share
 abbrev pub SharersAreNotLinear : Type 0
 SharersAreNotLinear =
-    (d : Told) → Reckoned 2 MOST_GROUPS (bind_to 0 (bare_term 1) ∷ []) d → CountedLinear d (over_term 3 0) × (LinearTerm d (over_term 3 0) → ⊥)
+    (cs : List Call) → SameCalls (bind_to 0 (bare_term 1) ∷ []) cs → (d : Told) → Reckoned 2 MOST_GROUPS cs d
+    → CountedLinear d (over_term 3 0) × (LinearTerm d (over_term 3 0) → ⊥)
 
 -- the rule with that verdict
 abbrev pub Counting : Told → ℕ → Term → Told → Type 0
@@ -94,12 +95,13 @@ OmittingGround d x t e = BoundBy (LinearTerm d t) FreeAgain d x t e
 abbrev pub bound : List Call → ℕ → Term → List Call
 bound before x t = before ++ (bind_to x t ∷ [])
 
--- From what the calls before reckon, the shortcut makes of the bind what the row `wrong` writes out;
--- the rule makes what the row `right` does.
+-- From what the calls before reckon, with any room that the row `right` speaks of, the shortcut makes of the bind
+-- what the row `wrong` writes out; the rule makes what the row `right` does.
 pub record Differs (Shortcut : Told → ℕ → Term → Told → Type 0) (before : List Call) (x : ℕ) (t : Term) (right wrong : Row) : Type 0 where
   pub calls : right.calls ≡ bound before x t
   pub rule : Worked right
-  pub shortcut : (d : Told) → Reckoned right.n right.least before d → (e : Told) × Shortcut d x t e × Shows wrong e
+  pub shortcut : (capacity : ℕ) → SpeaksOf right capacity → (cs : List Call) → SameCalls before cs
+      → (d : Told) → Reckoned right.n capacity cs d → (e : Told) × Shortcut d x t e × Shows wrong e
 
 -- 0 is bound to f(1, 3, 4) and 2 to position 1; then 0 to f(1, 2), where 1 and 2 share
 abbrev pub sharers : List Call

@@ -1,6 +1,7 @@
 -- What a keeper writes out that was given the calls of a row.
 use Rattle.std.specs.Prelude.{◌≡◌, ℕ, ◌<◌, List, [], ◌∷◌, ◌++◌, length, drop, Ok, Err, Result}
 use Rattle.agreement.specs.Reckoning.{Given}
+use Rattle.agreement.specs.Sessions.{Call, SameCalls}
 use Rattle.domain.specs.Told.{Told}
 use Rattle.domain.specs.declared.refusal.Refusal.TheVariants.{Room}
 use Rattle.keeper.specs.Calls.{fault_of}
@@ -19,5 +20,5 @@ WritesRow r list list' (Err f) = (f ≡ fault_of Room) × (length list < length 
 abbrev pub WritesRows : List Row → ℕ → Told → List ℕ → List ℕ → Result WrittenOut KeeperFault → Type 0
 WritesRows [] capacity t list list' w = Unit {0}
 WritesRows (r ∷ rs) capacity t list list' w =
-    (SpeaksOf r capacity → Given r.n capacity r.calls t → WritesRow r list list' w)
+    (SpeaksOf r capacity → (cs : List Call) → SameCalls r.calls cs → Given r.n capacity cs t → WritesRow r list list' w)
     × WritesRows rs capacity t list list' w
