@@ -8,6 +8,7 @@ pub mod line;
 #[cfg(test)]
 mod tests;
 
+use crate::line::{add_mark, add_refusal};
 use sheet::{SheetFault, StepMark};
 use std::alloc::{AllocError, Global};
 
@@ -23,7 +24,7 @@ pub fn transcript(
         Ok(steps) => mark_lines(heap, marks, steps),
         Err(fault) => {
             let mut text = mark_lines(heap, marks, fault.step)?;
-            writeln!(text, "{fault}")?;
+            add_refusal(&mut text, fault.refused())?;
             Ok(text)
         }
     }
@@ -36,7 +37,7 @@ fn mark_lines(heap: Global, marks: &[StepMark], count: usize) -> Result<String, 
 {
     let mut text = String::new(heap);
     for mark in marks.iter().take(count) {
-        writeln!(text, "{mark}")?;
+        add_mark(&mut text, *mark)?;
     }
     Ok(text)
 }

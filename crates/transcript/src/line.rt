@@ -1,5 +1,5 @@
-//! Lines one by one, for a caller that prints one at a time.
-ghost use Rattle.std.specs.Prelude.{◌≡◌, IfOk, string_bytes};
+//! Lines one by one: for a caller that prints one at a time, or put behind a text.
+ghost use Rattle.std.specs.Prelude.{◌≡◌, ◌++◌, IfOk, string_bytes};
 ghost use Rattle.transcript.specs.Lines.{mark_line, refusal_line};
 
 use sheet::{Refused, StepMark};
@@ -9,12 +9,34 @@ use std::alloc::{AllocError, Global};
 pub fn mark_line(heap: Global, mark: StepMark) -> Result<String, AllocError>
     ensures { IfOk result (λ s. string_bytes s ≡ mark_line mark) }
 {
-    format!(in heap; "{mark}\n")
+    let mut line = String::new(heap);
+    add_mark(&mut line, mark)?;
+    Ok(line)
 }
 
 /// The last line of a sheet that was refused.
 pub fn refusal_line(heap: Global, refused: Refused) -> Result<String, AllocError>
     ensures { IfOk result (λ s. string_bytes s ≡ refusal_line refused) }
 {
-    format!(in heap; "{refused}\n")
+    let mut line = String::new(heap);
+    add_refusal(&mut line, refused)?;
+    Ok(line)
+}
+
+// Puts the line of a step that was done behind the text.
+pub(crate) fn add_mark(text: &mut String, mark: StepMark) -> Result<(), AllocError>
+    ensures { IfOk result
+        (λ u. string_bytes text.new ≡ string_bytes text.old ++ mark_line mark) }
+{
+    writeln!(text, "{mark}")?;
+    Ok(())
+}
+
+// Puts the last line of a sheet that was refused behind the text.
+pub(crate) fn add_refusal(text: &mut String, refused: Refused) -> Result<(), AllocError>
+    ensures { IfOk result
+        (λ u. string_bytes text.new ≡ string_bytes text.old ++ refusal_line refused) }
+{
+    writeln!(text, "{refused}")?;
+    Ok(())
 }
