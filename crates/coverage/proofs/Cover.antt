@@ -14,6 +14,9 @@ pub covers_wider : {G : ℕ → Type 0} {w u p q : ℕ} → Within w u → Cover
 covers_wider h c =
     record { group = c.group; told = c.told; left = c.left; right = c.right; inside = within_trans c.inside h }
 
+pub covers_turned : {G : ℕ → Type 0} {w p q : ℕ} → Covers G w p q → Covers G w q p
+covers_turned c = record { group = c.group; told = c.told; left = c.right; right = c.left; inside = c.inside }
+
 pub covers_more : {G H : ℕ → Type 0} {w p q : ℕ} → ((g : ℕ) → G g → H g) → Covers G w p q → Covers H w p q
 covers_more f c =
     record { group = c.group; told = f c.group c.told; left = c.left; right = c.right; inside = c.inside }
