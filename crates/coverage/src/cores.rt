@@ -19,9 +19,16 @@ impl Groups<'_> {
     pub fn is_core(&self, g: u16) -> bool
         ensures { IsTrue result ↔ Core (TableGroup self.now.positions self.now.table.now) g }
     {
-        if !is_group(self.table, self.positions, g) {
-            return false;
-        }
+        is_group(self.table, self.positions, g) && self.has_open_pair(g)
+    }
+
+    // Whether g, one of the groups, has a pair that no group strictly inside it covers. It stays out of the loops
+    // over all masks, most of which are no groups.
+    #[inline(never)]
+    fn has_open_pair(&self, g: u16) -> bool
+        requires { TableGroup self.now.positions self.now.table.now g }
+        ensures { IsTrue result ↔ Core (TableGroup self.now.positions self.now.table.now) g }
+    {
         let mut open = false;
         // left at the first open pair
         'pairs: for p in 0u8..16 {
@@ -63,6 +70,6 @@ impl Groups<'_> {
         ensures { IsTrue result
             ↔ CoveredInside (TableGroup self.now.positions self.now.table.now) g p q }
     {
-        Subsets::of(g).any(|h| h != g && self.is_holding(h, p, q))
+        Subsets::of(g).any(|h| self.is_holding(h, p, q) && h != g)
     }
 }

@@ -27,11 +27,11 @@ impl Groups<'_> {
         Subsets::of(window).any(|g| self.is_holding(g, p, q))
     }
 
-    // Whether g is a group that holds both positions.
+    // Whether g is a group that holds both positions. Most subsets of a window do not hold them.
     pub(crate) fn is_holding(&self, g: u16, p: u8, q: u8) -> bool
         ensures { IsTrue result
             ↔ Holding (TableGroup self.now.positions self.now.table.now) p q g }
     {
-        is_group(self.table, self.positions, g) && has_both(g, p, q)
+        has_both(g, p, q) && is_group(self.table, self.positions, g)
     }
 }

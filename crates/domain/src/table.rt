@@ -29,7 +29,8 @@ pub fn in_range(positions: u8, g: u16) -> bool
 pub fn is_group(table: &[u8], positions: u8, g: u16) -> bool
     ensures { result ≡ is_group positions table.now g }
 {
-    in_range(positions, g) && holds(table, g)
+    // most masks are no groups, and their bit says so first
+    holds(table, g) && in_range(positions, g)
 }
 
 /// Sets the bit of the mask g to `on`; where the table ends before it, nothing is written.

@@ -1,7 +1,7 @@
 use Rattle.std.proofs.Common.{rules}
 use Rattle.coverage.proofs.Searching.{decides_yes, decides_no}
 use Rattle.coverage.proofs.Pairs.{closed_more, closed_core, open_core}
-use Rattle.coverage.proofs.groups.Groups.is_core.Goals as goal
+use Rattle.coverage.proofs.groups.Groups.has_open_pair.Goals as goal
 
 pub pairs-preserved : goal.pairs-preserved
 pairs-preserved c =

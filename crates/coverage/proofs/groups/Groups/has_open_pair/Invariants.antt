@@ -1,7 +1,7 @@
 use Rattle.std.proofs.Common.{◌≡◌, false}
 use Rattle.domain.specs.Tables.{TableGroup}
 use Rattle.coverage.proofs.Pairs.{Closed, ClosedAt}
-use Rattle.coverage.proofs.groups.Groups.is_core.Given as goal
+use Rattle.coverage.proofs.groups.Groups.has_open_pair.Given as goal
 
 -- no pair with p has been open
 abbrev pub invariant-loop-q : goal.invariant-loop-q
