@@ -1,4 +1,4 @@
-use Rattle.std.proofs.Common.{refl, replicate}
+use Rattle.std.proofs.Common.{refl, replicate, rules}
 use lib.ListN.{length-replicate}
 use Rattle.console.specs.declared.TheConstants.{MOST_MARKS}
 use Rattle.console.proofs.run_sheet.Goals as goal
@@ -13,7 +13,7 @@ returns g c =
         outcome = c.run-outcome.result;
         room = length-replicate MOST_MARKS c.blank-marks.result;
         ran = c.run-outcome.ensures.ran;
-        says = c.transcript.ensures;
+        says = search rules;
       };
       same_capacity = c.run-outcome.ensures.same_capacity;
     }

@@ -30,7 +30,7 @@ returns-in_err-two g c =
 pub returns-then-eq : goal.returns-then-eq
 returns-then-eq g c =
     let x = compared_by _ _ _ _ _ _ c.in_ok-one.one c.in_ok-two.two c.in_ok-one.ensures c.in_ok-two.ensures
-    c.eq-then-eq.result (search rules) (search rules) in
+    _ (search rules) (search rules) in
     record {
       compared = x;
       means = λ e. means_alike _ _ _ _ _ _ _ _ x;
