@@ -10,6 +10,7 @@ use Rattle.domain.specs.Coverage.{CoreFits}
 use Rattle.domain.specs.Told.{Told, Group, Lawful}
 use Rattle.domain.specs.declared.refusal.Refusal.{Refusal}
 use Rattle.keeper.specs.Calls.{change_refusal}
+use Rattle.agreement.proofs.Loans.{reckoned_with}
 use Rattle.agreement.proofs.Rules.{reckons_lawful, made_lawful}
 use Rattle.agreement.specs.Laws.{OneReckoned}
 use Rattle.agreement.specs.Reckoning as reckoning
@@ -70,4 +71,5 @@ one_reckoned =
           let all = all_some k cs new.0 (new_lawful opened.0 opened.1 new.1) in
           (all.0, record { opened = opened; start = new.0; new = new.1; reckons = all.1 });
       one = λ n k cs d e r s. all_one k cs r.start s.start d e (one_new r.new s.new) r.reckons s.reckons;
+      same = λ n k cs ds d alike r. reckoned_with n k cs ds alike r;
     }

@@ -45,6 +45,9 @@ MeansAlike capacity s t r =
 pub record OneReckoned : Type 0 where
   pub some : (n capacity : ℕ) (cs : List Call) → Opened n → (d : Told) × Reckoned n capacity cs d
   pub one : (n capacity : ℕ) (cs : List Call) (d e : Told) → Reckoned n capacity cs d → Reckoned n capacity cs e → d ≡ e
+  -- and it is that of the same calls, whatever is lent that they do not work in
+  pub same : (n capacity : ℕ) (cs ds : List Call) (d : Told) → SameCalls cs ds
+      → Reckoned n capacity ds d → Reckoned n capacity cs d
 
 -- ---- a write-out is the least that covers
 
