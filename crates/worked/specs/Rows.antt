@@ -42,7 +42,9 @@ pub record WorkedAt (r : Row) (capacity : ℕ) (cs : List Call) : Type 0 where
 
 -- the row is right of all the keepers that it speaks of, whatever lists are lent with its calls
 abbrev pub Worked : Row → Type 0
-Worked r = (capacity : ℕ) → SpeaksOf r capacity → (cs : List Call) → SameCalls r.calls cs → WorkedAt r capacity cs
+Worked r =
+    (capacity : ℕ) → SpeaksOf r capacity → (cs : List Call) → SameCalls r.calls cs
+    → WorkedAt r capacity cs
 
 -- every row of a list is right
 abbrev pub AllWorked : List Row → Type 0

@@ -20,5 +20,6 @@ WritesRow r list list' (Err f) = (f ≡ fault_of Room) × (length list < length 
 abbrev pub WritesRows : List Row → ℕ → Told → List ℕ → List ℕ → Result WrittenOut KeeperFault → Type 0
 WritesRows [] capacity t list list' w = Unit {0}
 WritesRows (r ∷ rs) capacity t list list' w =
-    (SpeaksOf r capacity → (cs : List Call) → SameCalls r.calls cs → Given r.n capacity cs t → WritesRow r list list' w)
+    (SpeaksOf r capacity → (cs : List Call) → SameCalls r.calls cs → Given r.n capacity cs t
+    → WritesRow r list list' w)
     × WritesRows rs capacity t list list' w
